@@ -1,0 +1,4 @@
+mod And
+mod Apart
+pub mod Words
+pub mod Legal
