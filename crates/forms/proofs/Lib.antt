@@ -2,3 +2,4 @@ mod And
 mod Apart
 pub mod Words
 pub mod Legal
+pub mod ByRows

@@ -13,7 +13,7 @@ use Rattle.std.specs.Options.{isSome}
 use Rattle.std.specs.declared.option.Option.{Option}
 use Rattle.search.specs.First.{firstMatch}
 use Rattle.forms.specs.declared.Form.{Form}
-use Rattle.forms.specs.declared.Form.the-variants as forms
+use Rattle.forms.specs.declared.Form.the-variants as form
 use Rattle.forms.specs.declared.FormRow.{FormRow}
 
 -- 1 at a bit that has to be 1
@@ -29,55 +29,55 @@ abbrev numeral : (ℕ → ℕ) → ℕ → List ℕ → ℕ
 numeral digit high [] = high
 numeral digit high (c ∷ cs) = numeral digit (2 * high + digit c) cs
 
-abbrev form : String → Form → FormRow
-form picture f = record { mask = numeral fixed 0 (codes picture); value = numeral one 0 (codes picture); form = f }
+abbrev row : String → Form → FormRow
+row picture f = record { mask = numeral fixed 0 (codes picture); value = numeral one 0 (codes picture); form = f }
 
 abbrev pub formRows : List FormRow
 formRows =
-    form "0000dddaaa000bbb" forms.And
-    ∷ form "0000dddaaa001bbb" forms.Or
-    ∷ form "0000dddaaa010bbb" forms.Xor
-    ∷ form "0000dddaaa011000" forms.Not
-    ∷ form "0000dddaaa100bbb" forms.Add
-    ∷ form "0000dddaaa101bbb" forms.Sub
-    ∷ form "0000dddaaa110bbb" forms.Sha
-    ∷ form "0000dddaaa111bbb" forms.Shl
-    ∷ form "0001dddaaa000bbb" forms.Cmplt
-    ∷ form "0001dddaaa001bbb" forms.Cmple
-    ∷ form "0001dddaaa011bbb" forms.Cmpeq
-    ∷ form "0001dddaaa100bbb" forms.Cmpltu
-    ∷ form "0001dddaaa101bbb" forms.Cmpleu
-    ∷ form "0010dddaaa0nnnnn" forms.Addi
-    ∷ form "0010bbbaaa100000" forms.Jz
-    ∷ form "0010bbbaaa100001" forms.Jnz
-    ∷ form "0010000aaa100011" forms.Jmp
-    ∷ form "0010bbbaaa100100" forms.Jal
-    ∷ form "0010000aaa100111" forms.Calls
-    ∷ form "0011dddaaannnnnn" forms.Ld
-    ∷ form "1101dddaaannnnnn" forms.Ldb
-    ∷ form "0100bbbaaannnnnn" forms.St
-    ∷ form "1110bbbaaannnnnn" forms.Stb
-    ∷ form "0101ddd0nnnnnnnn" forms.Movi
-    ∷ form "0101ddd1nnnnnnnn" forms.Movih
-    ∷ form "0110bbb0nnnnnnnn" forms.Bz
-    ∷ form "0110bbb1nnnnnnnn" forms.Bnz
-    ∷ form "0111ddd0nnnnnnnn" forms.In
-    ∷ form "0111bbb1nnnnnnnn" forms.Out
-    ∷ form "1000dddaaa000bbb" forms.Mul
-    ∷ form "1000dddaaa001bbb" forms.Mulh
-    ∷ form "1000dddaaa010bbb" forms.Mulhu
-    ∷ form "1111000000100000" forms.Ei
-    ∷ form "1111000000100001" forms.Di
-    ∷ form "1111000000100100" forms.Reti
-    ∷ form "1111ddd000101000" forms.Getiid
-    ∷ form "1111dddaaa101100" forms.Rds
-    ∷ form "1111dddaaa110000" forms.Wrs
-    ∷ form "1111bbbaaa110100" forms.Wrpi
-    ∷ form "1111bbbaaa110101" forms.Wrvi
-    ∷ form "1111bbbaaa110110" forms.Wrpd
-    ∷ form "1111bbbaaa110111" forms.Wrvd
-    ∷ form "1111000aaa111000" forms.Flush
-    ∷ form "1111111111111111" forms.Halt
+    row "0000dddaaa000bbb" form.And
+    ∷ row "0000dddaaa001bbb" form.Or
+    ∷ row "0000dddaaa010bbb" form.Xor
+    ∷ row "0000dddaaa011000" form.Not
+    ∷ row "0000dddaaa100bbb" form.Add
+    ∷ row "0000dddaaa101bbb" form.Sub
+    ∷ row "0000dddaaa110bbb" form.Sha
+    ∷ row "0000dddaaa111bbb" form.Shl
+    ∷ row "0001dddaaa000bbb" form.Cmplt
+    ∷ row "0001dddaaa001bbb" form.Cmple
+    ∷ row "0001dddaaa011bbb" form.Cmpeq
+    ∷ row "0001dddaaa100bbb" form.Cmpltu
+    ∷ row "0001dddaaa101bbb" form.Cmpleu
+    ∷ row "0010dddaaa0nnnnn" form.Addi
+    ∷ row "0010bbbaaa100000" form.Jz
+    ∷ row "0010bbbaaa100001" form.Jnz
+    ∷ row "0010000aaa100011" form.Jmp
+    ∷ row "0010bbbaaa100100" form.Jal
+    ∷ row "0010000aaa100111" form.Calls
+    ∷ row "0011dddaaannnnnn" form.Ld
+    ∷ row "1101dddaaannnnnn" form.Ldb
+    ∷ row "0100bbbaaannnnnn" form.St
+    ∷ row "1110bbbaaannnnnn" form.Stb
+    ∷ row "0101ddd0nnnnnnnn" form.Movi
+    ∷ row "0101ddd1nnnnnnnn" form.Movih
+    ∷ row "0110bbb0nnnnnnnn" form.Bz
+    ∷ row "0110bbb1nnnnnnnn" form.Bnz
+    ∷ row "0111ddd0nnnnnnnn" form.In
+    ∷ row "0111bbb1nnnnnnnn" form.Out
+    ∷ row "1000dddaaa000bbb" form.Mul
+    ∷ row "1000dddaaa001bbb" form.Mulh
+    ∷ row "1000dddaaa010bbb" form.Mulhu
+    ∷ row "1111000000100000" form.Ei
+    ∷ row "1111000000100001" form.Di
+    ∷ row "1111000000100100" form.Reti
+    ∷ row "1111ddd000101000" form.Getiid
+    ∷ row "1111dddaaa101100" form.Rds
+    ∷ row "1111dddaaa110000" form.Wrs
+    ∷ row "1111bbbaaa110100" form.Wrpi
+    ∷ row "1111bbbaaa110101" form.Wrvi
+    ∷ row "1111bbbaaa110110" form.Wrpd
+    ∷ row "1111bbbaaa110111" form.Wrvd
+    ∷ row "1111000aaa111000" form.Flush
+    ∷ row "1111111111111111" form.Halt
     ∷ []
 
 -- a word belongs to a row if it has the bits that have to stand so

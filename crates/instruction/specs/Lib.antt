@@ -1,0 +1,3 @@
+pub mod Fields
+pub mod Decode
+pub mod Encode
