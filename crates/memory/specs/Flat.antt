@@ -24,6 +24,12 @@ flatBytes buffer k = cond (ltb (k / 1024) (wholeFrames (length buffer))) (getD b
 -- What the buffer holds past its whole frames.
 abbrev pub flatRest : List ℕ → GName → Rest
 flatRest buffer place = record {
-    outside = λ k. cond (ltb (k / 1024) (wholeFrames (length buffer))) 0 (getD buffer k 0);
-    size = length buffer;
-    place = place }
+  outside = λ k. cond (ltb (k / 1024) (wholeFrames (length buffer))) 0 (getD buffer k 0);
+  size = length buffer;
+  place = place;
+}
+
+-- What the buffer holds at index k once it comes back from a memory whose bytes are then `bytes`:
+-- those bytes in its whole frames, and what it held past them.
+abbrev pub flatBack : List ℕ → (ℕ → ℕ) → ℕ → ℕ
+flatBack buffer bytes k = cond (ltb (k / 1024) (wholeFrames (length buffer))) (bytes k) (getD buffer k 0)

@@ -2,6 +2,8 @@
 //! Whoever supplies a memory implements `Memory` and proves its contracts; two memories over
 //! lent buffers come with it.
 pub mod flat;
+pub mod lending;
+pub mod split;
 
 ghost use Prim.Native.Nat.{ℕ, _/_};
 ghost use mathlib.Core.Path.{_≡_};
@@ -11,9 +13,6 @@ ghost use Rattle.memory.specs.Meaning.{Rest, markAt, readOf, writeAnswer, writ
 
 /// How many bytes a frame has.
 pub const FRAME_SIZE: usize = 1024;
-
-/// How many frames a memory is known by.
-pub const FRAMES: usize = 64;
 
 /// What a frame is: read and written, read only, or not there.
 #[derive(Clone, Copy, PartialEq, Eq, Debug)]
