@@ -88,6 +88,57 @@ belongs word row = eqb (bitAnd word (row .mask)) (row .value)
 abbrev pub formOf : ℕ → Option FormRow
 formOf word = firstMatch (belongs word) formRows
 
+-- the place of a form in the table
+abbrev pub formNumber : Form → ℕ
+formNumber form.And = 0
+formNumber form.Or = 1
+formNumber form.Xor = 2
+formNumber form.Not = 3
+formNumber form.Add = 4
+formNumber form.Sub = 5
+formNumber form.Sha = 6
+formNumber form.Shl = 7
+formNumber form.Cmplt = 8
+formNumber form.Cmple = 9
+formNumber form.Cmpeq = 10
+formNumber form.Cmpltu = 11
+formNumber form.Cmpleu = 12
+formNumber form.Addi = 13
+formNumber form.Jz = 14
+formNumber form.Jnz = 15
+formNumber form.Jmp = 16
+formNumber form.Jal = 17
+formNumber form.Calls = 18
+formNumber form.Ld = 19
+formNumber form.Ldb = 20
+formNumber form.St = 21
+formNumber form.Stb = 22
+formNumber form.Movi = 23
+formNumber form.Movih = 24
+formNumber form.Bz = 25
+formNumber form.Bnz = 26
+formNumber form.In = 27
+formNumber form.Out = 28
+formNumber form.Mul = 29
+formNumber form.Mulh = 30
+formNumber form.Mulhu = 31
+formNumber form.Ei = 32
+formNumber form.Di = 33
+formNumber form.Reti = 34
+formNumber form.Getiid = 35
+formNumber form.Rds = 36
+formNumber form.Wrs = 37
+formNumber form.Wrpi = 38
+formNumber form.Wrvi = 39
+formNumber form.Wrpd = 40
+formNumber form.Wrvd = 41
+formNumber form.Flush = 42
+formNumber form.Halt = 43
+
+-- the row of a form
+abbrev pub rowOf : Form → FormRow
+rowOf f = getD formRows (formNumber f) (record { mask = 0; value = 0; form = form.And })
+
 -- no word belongs to two rows: where it belongs to the rows at two places, these are one place
 abbrev pub Disjoint : List FormRow → Type 0
 Disjoint rows =

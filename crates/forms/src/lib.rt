@@ -1,6 +1,7 @@
 //! The 44 forms of instruction words: one constant table, and the search for a word's form.
+ghost use Prim.Native.Nat.{_<_};
 ghost use mathlib.Core.Path.{_≡_};
-ghost use Rattle.forms.specs.Table.{formRows, belongs, formOf, Disjoint, legalWords};
+ghost use Rattle.forms.specs.Table.{formRows, belongs, formOf, formNumber, rowOf, Disjoint, legalWords};
 use search::Entry;
 use search::first_match;
 
@@ -308,4 +309,21 @@ pub fn form_of(word: u16) -> Option<FormRow>
     ensures { λ r. ⌜ r ≡ formOf word ⌝ }
 {
     first_match(&FORMS, word)
+}
+
+impl Form {
+    /// The place of a form in the table.
+    pub fn number(self) -> usize
+        ensures value { λ r. ⌜ r ≡ formNumber self ⌝ }
+        ensures bound { λ r. ⌜ r < 44 ⌝ }
+    {
+        self as usize
+    }
+
+    /// The row of a form.
+    pub fn row(self) -> FormRow
+        ensures { λ r. ⌜ r ≡ rowOf self ⌝ }
+    {
+        FORMS[self.number()]
+    }
 }
