@@ -69,5 +69,9 @@ pub fn first_word(text: &[u8]) -> &[u8]
 fn letter_at(word: &[u8], index: usize) -> u8
     ensures { λ r. ⌜ r ≡ letterAt (now (word .entry)) index ⌝ }
 {
-    if index < word.len() { word[index] } else { b' ' }
+    if index < word.len() {
+        word[index]
+    } else {
+        b' '
+    }
 }

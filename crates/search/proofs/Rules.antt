@@ -1,7 +1,7 @@
 -- What is found passes the test, and a rule that holds of every element of a list holds of what is found in it.
 use mathlib.Core.Path.{_≡_, refl, subst}
 use mathlib.Core.Bool.{Bool, true, false, cond, _&&_}
-use mathlib.Core.List.{List, [], _∷_}
+use mathlib.Core.List.{List, [], _∷_, map}
 use Prim.Native.Nat.{ℕ, zero, suc}
 use native.Mathlib.Omega.{arith}
 use lib.Dec.{T}
@@ -35,6 +35,11 @@ Each P (x ∷ xs) = P x × Each P xs
 pub each-all : {A : Type 0} (rule : A → Bool) (xs : List A) → T (all rule xs) → Each (λ (x : A). T (rule x)) xs
 each-all rule [] t = tt
 each-all rule (x ∷ xs) t = (and-left (rule x) (all rule xs) t, each-all rule xs (and-right (rule x) (all rule xs) t))
+
+-- two lists that are computed from one list and are the same, element for element
+pub each-same : {A B : Type 0} (f g : A → B) (xs : List A) → map f xs ≡ map g xs → Each (λ (x : A). f x ≡ g x) xs
+each-same f g [] e = tt
+each-same f g (x ∷ xs) e = (cc, each-same f g xs cc)
 
 -- a long test is computed in parts
 pub all-split : {A : Type 0} (rule : A → Bool) (n : ℕ) (xs : List A) → T (all rule (take n xs)) → T (all rule (drop n xs)) → T (all rule xs)

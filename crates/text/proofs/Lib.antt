@@ -1,0 +1,4 @@
+mod Fields
+mod Growing
+mod Pieces
+mod Back
