@@ -1,0 +1,5 @@
+//! The one way by which bytes get from a file into a memory: through a ticket, block by block,
+//! each block whole or not at all.
+pub mod fault;
+pub mod convert;
+pub mod ticket;
