@@ -20,7 +20,6 @@ use Rattle.loading.specs.declared.fault.Misplaced.the-variants.{Past}
 use Rattle.loading.specs.declared.fault.PlaceFault.{PlaceFault}
 use Rattle.loading.specs.Blocks.{placed, andThen, firstRefused, placeOf, AllPlain, overlaid}
 
-
 -- what the memory answers for the byte at an address
 abbrev pub byteAt : (ℕ → Mark) → ℕ → Result (Unit {0}) PlaceFault
 byteAt marks a = placed a (writeAnswer marks a)
@@ -121,10 +120,11 @@ free-plain marks a zero e i h = absurd (omega arith)
 free-plain marks a (suc n) e i h =
     let r = both-free (byteAt marks a) (firstRefused marks (a + 1) n) e in
     elim (cases-eq i 0) [
-        inl z ↦ let at : a + i ≡ a = omega arith in ap (λ (k : ℕ). markAt marks k) at ∙ free-byte marks a (r .0)
+      | inl z ↦ let at : a + i ≡ a = omega arith in ap (λ (k : ℕ). markAt marks k) at ∙ free-byte marks a (r .0)
       | inr z ↦
-        let at : a + i ≡ a + 1 + (i - 1) = omega arith in
-        ap (λ (k : ℕ). markAt marks k) at ∙ free-plain marks (a + 1) n (r .1) (i - 1) (omega arith) ]
+          let at : a + i ≡ a + 1 + (i - 1) = omega arith in
+          ap (λ (k : ℕ). markAt marks k) at ∙ free-plain marks (a + 1) n (r .1) (i - 1) (omega arith)
+    ]
 
 pub place-free : (marks : ℕ → Mark) (a n : ℕ) {u : Unit {0}} → Ok u ≡ placeOf marks a n → (a + n ≤ 65536) × AllPlain marks a n
 place-free marks a n e = go (ltb 65536 (a + n)) refl

@@ -27,7 +27,10 @@ impl Ticket {
         ensures sum { λ r. ⌜ r .sum ≡ 0 ⌝ }
         ensures spent { λ r. ⌜ r .spent ≡ false ⌝ }
     {
-        Ticket { sum: 0, spent: false }
+        Ticket {
+            sum: 0,
+            spent: false,
+        }
     }
 
     /// Ends the load: answers the ticket's sum, or a refusal if `sum` is another.
