@@ -16,7 +16,7 @@ use Rattle.loading.specs.declared.load.Step.the-variants.{Put, End}
 use Rattle.loading.specs.declared.load.Loaded.{Loaded}
 use Rattle.loading.specs.declared.load.LoadRefusal.{LoadRefusal}
 use Rattle.loading.specs.Faults.{loadFromPut, loadFromRecord, loadFromClose}
-use Rattle.loading.specs.Blocks.{putOf, sumAfter, bytesAfter}
+use Rattle.loading.specs.Blocks.{overlaid, putOf}
 use Rattle.loading.specs.Closing.{closeOf}
 
 -- What one record does: its answer, and the ticket's sum, the bytes and the position after it.
@@ -29,17 +29,16 @@ pub record Turn : Type 0 where
 abbrev pub turn : Result Step LoadFault → ℕ → (ℕ → ℕ) → ℕ → Turn
 turn answer sum bytes position = record { answer = answer; sum = sum; bytes = bytes; position = position }
 
-abbrev pub putStep : Result ℕ PutFault → Result Step LoadFault
-putStep (Ok sum) = Ok Put
-putStep (Err fault) = Err (loadFromPut fault)
+-- A block goes through the ticket: the load goes on, or the ticket's fault is the load's.
+abbrev pub putBy : (ℕ → ℕ) → ℕ → ℕ → ℕ → List ℕ → Result ℕ PutFault → Turn
+putBy bytes p sum a body (Ok new) = turn (Ok Put) new (overlaid bytes a body) (p + sizeOf (block a body))
+putBy bytes p sum a body (Err fault) = turn (Err (loadFromPut fault)) sum bytes (p + sizeOf (block a body))
 
--- A block that is read goes through the ticket, and an end record stops the load.
+-- An end record stops the load, and so does a record that cannot be read.
 abbrev pub turnBy : (ℕ → Mark) → (ℕ → ℕ) → ℕ → ℕ → Result Item RecordFault → Turn
 turnBy marks bytes p sum (Err fault) = turn (Err (loadFromRecord fault)) sum bytes p
 turnBy marks bytes p sum (Ok (end said)) = turn (Ok (End said)) sum bytes (p + sizeOf (end said))
-turnBy marks bytes p sum (Ok (block a body)) =
-    turn (putStep (putOf sum marks a body)) (sumAfter sum (putOf sum marks a body))
-    (bytesAfter bytes a body (putOf sum marks a body)) (p + sizeOf (block a body))
+turnBy marks bytes p sum (Ok (block a body)) = putBy bytes p sum a body (putOf sum marks a body)
 
 abbrev pub turnOf : (ℕ → Mark) → (ℕ → ℕ) → List ℕ → ℕ → ℕ → Turn
 turnOf marks bytes file p sum = turnBy marks bytes p sum (recordOf file p)

@@ -4,6 +4,7 @@ ghost use mathlib.Core.Path.{_≡_};
 ghost use mathlib.Core.Bool.{true, false};
 ghost use lib.ListN.{length};
 ghost use Rattle.loading.specs.Closing.{closeOf};
+ghost use Rattle.loading.specs.Laws.{Accounted};
 ghost use Rattle.loading.specs.Loads.{turn, turnOf, final, finishBy, loadFrom, loadOf};
 use crate::convert::LoadFromClose;
 use crate::convert::LoadFromPut;
@@ -46,6 +47,7 @@ pub fn load<Mem: Memory>(memory: &mut Mem, file: &[u8]) -> Result<Loaded, LoadRe
     ensures bytes { λ _. ⌜ bytes (now (memory .exit)) ≡ loadOf (marks (now (memory .entry))) (bytes (now (memory .entry))) (now (file .entry)) .bytes ⌝ }
     ensures marks { λ _. ⌜ marks (now (memory .exit)) ≡ marks (now (memory .entry)) ⌝ }
     ensures rest { λ _. ⌜ rest (now (memory .exit)) ≡ rest (now (memory .entry)) ⌝ }
+    ensures accounted { λ r. ⌜ Accounted (marks (now (memory .entry))) (bytes (now (memory .entry))) (bytes (now (memory .exit))) (now (file .entry)) r ⌝ }
 {
     match Reader::open(file) {
         Ok(reader) => {
