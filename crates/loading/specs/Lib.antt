@@ -1,0 +1,5 @@
+pub mod Faults
+pub mod Blocks
+pub mod Closing
+pub mod Loads
+pub mod Laws
