@@ -1,0 +1,4 @@
+pub mod Events
+pub mod Tables
+pub mod Addresses
+pub mod Accesses
