@@ -2,3 +2,4 @@ pub mod Events
 pub mod Tables
 pub mod Addresses
 pub mod Accesses
+pub mod Opening

@@ -1,9 +1,10 @@
 //! Fetches, loads and stores by logical address. What has passed its checks cannot fail any more.
-ghost use Prim.Native.Nat.{ℕ, _%_, _+_, _<_};
+ghost use Prim.Native.Nat.{_%_};
 ghost use mathlib.Core.Path.{_≡_};
 ghost use Rattle.memory.specs.declared.Mark.the-variants.{Absent, Plain};
 ghost use Rattle.memory.specs.Meaning.{markAt, put};
-ghost use Rattle.translation.specs.Accesses.{fetched, loaded, loadedAt, storeAnswer, stored, storedAt, wordAt, wordPut};
+ghost use Rattle.translation.specs.Accesses.{fetched, loaded, storeAnswer, stored, wordAt, wordPut};
+ghost use Rattle.translation.specs.Opening.{Confined};
 use crate::address::Access;
 use crate::address::Width;
 use crate::address::data_address;
@@ -85,6 +86,23 @@ pub fn load<Mem: Memory>(
 /// Stores `value`, or its low byte, at `address`; if a check fails, answers the first one and
 /// changes nothing.
 pub fn store<Mem: Memory>(
+    user: bool,
+    table: &PageTable,
+    memory: &mut Mem,
+    address: u16,
+    width: Width,
+    value: u16,
+) -> Result<(), Event>
+    ensures answer { λ r. ⌜ r ≡ storeAnswer user (now (table .entry) .entries) (marks (now (memory .entry))) width address ⌝ }
+    ensures bytes { λ _. ⌜ bytes (now (memory .exit)) ≡ stored user (now (table .entry) .entries) (marks (now (memory .entry))) (bytes (now (memory .entry))) width address value ⌝ }
+    ensures marks { λ _. ⌜ marks (now (memory .exit)) ≡ marks (now (memory .entry)) ⌝ }
+    ensures rest { λ _. ⌜ rest (now (memory .exit)) ≡ rest (now (memory .entry)) ⌝ }
+    ensures confined { λ _. ⌜ Confined user (now (table .entry) .entries) (marks (now (memory .entry))) address (bytes (now (memory .entry))) (bytes (now (memory .exit))) ⌝ }
+{
+    store_value(user, table, memory, address, width, value)
+}
+
+fn store_value<Mem: Memory>(
     user: bool,
     table: &PageTable,
     memory: &mut Mem,

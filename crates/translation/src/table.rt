@@ -11,6 +11,16 @@ pub const ENTRIES: usize = 64;
 /// How many addresses lie in a page.
 pub const PAGE_SIZE: u16 = 1024;
 
+const PAGES: u8 = 64;
+
+const USED: u8 = 64;
+
+const FRAMES: u8 = 64;
+
+const READ_ONLY: u8 = 64;
+
+const VALID: u8 = 128;
+
 /// The virtual field of an entry: bits 5..0 are a page, and bit 6 says that the entry is used.
 #[derive(Clone, Copy)]
 pub struct VirtualField {
@@ -30,13 +40,13 @@ impl VirtualField {
     pub fn page(self) -> u8
         ensures { λ r. ⌜ r ≡ pageOf self ⌝ }
     {
-        self.bits % 64
+        self.bits % PAGES
     }
 
     pub fn is_used(self) -> bool
         ensures { λ r. ⌜ r ≡ isUsed self ⌝ }
     {
-        self.bits / 64 % 2 == 1
+        self.bits / USED % 2 == 1
     }
 }
 
@@ -60,19 +70,19 @@ impl PhysicalField {
     pub fn frame(self) -> u8
         ensures { λ r. ⌜ r ≡ frameOf self ⌝ }
     {
-        self.bits % 64
+        self.bits % FRAMES
     }
 
     pub fn is_read_only(self) -> bool
         ensures { λ r. ⌜ r ≡ isReadOnly self ⌝ }
     {
-        self.bits / 64 % 2 == 1
+        self.bits / READ_ONLY % 2 == 1
     }
 
     pub fn is_valid(self) -> bool
         ensures { λ r. ⌜ r ≡ isValid self ⌝ }
     {
-        self.bits / 128 % 2 == 1
+        self.bits / VALID % 2 == 1
     }
 }
 
