@@ -1,0 +1,5 @@
+pub mod Events
+pub mod Tables
+pub mod Addresses
+pub mod Accesses
+pub mod Opening
