@@ -1,0 +1,4 @@
+//! What the monitor makes of a line: its words, its numbers, and the command that it is.
+
+pub mod numbers;
+pub mod words;
