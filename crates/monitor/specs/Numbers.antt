@@ -1,11 +1,16 @@
 -- The numbers of commands: decimal, or hexadecimal after 0x.
 use mathlib.Core.Bool.{Bool, true, false, cond, _&&_}
 use mathlib.Core.List.{List, [], _∷_}
-use Prim.Native.Nat.{ℕ, _+_, _-_, _*_}
+use Prim.Native.Nat.{ℕ, _+_, _-_, _*_, _≤_}
 use lib.Dec.{ltb, leb, eqb}
 use lib.ListN.{length, drop, getD}
 use Rattle.std.specs.declared.option.Option.{Option}
 use Rattle.std.specs.declared.option.Option.the-variants.{Some, None}
+
+-- a number that was read is at most `most`
+abbrev pub Within : ℕ → Option ℕ → Type 0
+Within most (Some n) = n ≤ most
+Within most None = Unit {0}
 
 -- a character from one to another
 abbrev between : ℕ → ℕ → ℕ → Bool

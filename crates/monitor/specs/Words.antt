@@ -23,6 +23,7 @@ split s = record { word = now (s .word); rest = lent (s .rest) }
 
 abbrev pub splitOf : List ℕ → Parts
 splitOf line =
-    record
-    { word = firstWord line
-    ; rest = cond (ltb (length (firstWord line)) (length line)) (Some (drop (length (firstWord line) + 1) line)) None }
+    record {
+      word = firstWord line;
+      rest = cond (ltb (length (firstWord line)) (length line)) (Some (drop (length (firstWord line) + 1) line)) None;
+    }

@@ -3,13 +3,14 @@ ghost use Prim.Native.Nat.{_<_, _≤_};
 ghost use mathlib.Core.Bool.{true};
 ghost use mathlib.Core.Path.{_≡_};
 ghost use lib.ListN.{length};
-ghost use Rattle.monitor.specs.Numbers.{digitOf, isHexadecimal, digitsOf, numberOf};
+ghost use Rattle.monitor.specs.Numbers.{Within, digitOf, isHexadecimal, digitsOf, numberOf};
 
 const NO_DIGIT: u64 = 99;
 
 /// A number in decimal, or in hexadecimal after `0x`, if it is well-formed and at most `most`.
 pub fn parse_number(word: &[u8], most: u32) -> Option<u32>
-    ensures { λ r. ⌜ r ≡ numberOf (now (word .entry)) most ⌝ }
+    ensures value { λ r. ⌜ r ≡ numberOf (now (word .entry)) most ⌝ }
+    ensures bound { λ r. ⌜ Within most r ⌝ }
 {
     if is_hexadecimal(word) {
         parse_digits(&word[2..], 16, most)
@@ -29,7 +30,8 @@ fn is_hexadecimal(word: &[u8]) -> bool
 /// A number of one or more digits.
 fn parse_digits(digits: &[u8], base: u64, most: u32) -> Option<u32>
     requires { ⌜ base ≤ 16 ⌝ }
-    ensures { λ r. ⌜ r ≡ digitsOf base most (now (digits .entry)) ⌝ }
+    ensures value { λ r. ⌜ r ≡ digitsOf base most (now (digits .entry)) ⌝ }
+    ensures bound { λ r. ⌜ Within most r ⌝ }
 {
     if digits.len() == 0 {
         return None;

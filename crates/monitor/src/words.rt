@@ -1,7 +1,7 @@
 //! A line, word by word.
 ghost use mathlib.Core.Path.{_≡_};
-ghost use Rattle.monitor.specs.Words.{split, splitOf, Parts};
-
+ghost use Rattle.std.specs.shelf.Text.{sameBytes};
+ghost use Rattle.monitor.specs.Words.{split, splitOf};
 use names::first_word;
 
 /// The first word of a line, and what stands behind the blank after it, if there is one.
@@ -18,8 +18,18 @@ pub fn split_word<'a>(line: &'a [u8]) -> Split<'a>
     let word = first_word(line);
     let end = word.len();
     if end < line.len() {
-        Split { word, rest: Some(&line[end + 1..]) }
+        Split {
+            word,
+            rest: Some(&line[end + 1..]),
+        }
     } else {
         Split { word, rest: None }
     }
+}
+
+/// Whether two words are the same.
+pub fn same_word(one: &[u8], other: &[u8]) -> bool
+    ensures { λ r. ⌜ r ≡ sameBytes (now (one .entry)) (now (other .entry)) ⌝ }
+{
+    one == other
 }

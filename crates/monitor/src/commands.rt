@@ -1,0 +1,212 @@
+//! The monitor's commands: one table of their names, and what each takes behind its name.
+ghost use mathlib.Core.Path.{_≡_};
+ghost use Rattle.std.specs.shelf.Text.{sameBytes};
+ghost use Rattle.names.specs.Names.{nameOf};
+ghost use Rattle.monitor.specs.Words.{lent};
+ghost use Rattle.monitor.specs.Commands.{commandRows, rowNamed, verbOf, memoryOf, areaOf, said, saidSome, takenOf, orUnknown, passedOver, commandOf};
+use crate::arguments::one_number;
+use crate::arguments::two_numbers;
+use crate::numbers::parse_number;
+use crate::words::same_word;
+use crate::words::split_word;
+use names::Name;
+use search::Entry;
+use search::first_match;
+
+/// The most bytes that `bytes` shows.
+const MOST_SHOWN: u32 = 65536;
+
+const MOST_WORD: u32 = 65535;
+
+/// A command's name stands for one of these.
+#[derive(Clone, Copy)]
+pub enum Verb {
+    Text,
+    Word,
+    List,
+    Memory,
+    Load,
+    Bytes,
+}
+
+/// A row of the table of commands.
+#[derive(Clone, Copy)]
+pub struct CommandRow {
+    pub name: Name,
+    pub verb: Verb,
+}
+
+pub impl Entry for CommandRow as CommandRowEntry {
+    type Key = Name;
+
+    ghost matched = { λ row name. sameBytes (row .name .letters) (name .letters) };
+
+    fn matches(&self, name: Name) -> bool {
+        self.name.is(name)
+    }
+}
+
+const COMMANDS: [CommandRow; 6] = [
+    CommandRow {
+        name: Name {
+            letters: *b"text    ",
+        },
+        verb: Verb::Text,
+    },
+    CommandRow {
+        name: Name {
+            letters: *b"word    ",
+        },
+        verb: Verb::Word,
+    },
+    CommandRow {
+        name: Name {
+            letters: *b"list    ",
+        },
+        verb: Verb::List,
+    },
+    CommandRow {
+        name: Name {
+            letters: *b"memory  ",
+        },
+        verb: Verb::Memory,
+    },
+    CommandRow {
+        name: Name {
+            letters: *b"load    ",
+        },
+        verb: Verb::Load,
+    },
+    CommandRow {
+        name: Name {
+            letters: *b"bytes   ",
+        },
+        verb: Verb::Bytes,
+    },
+];
+
+/// What a line asks for. File names and texts are parts of the line itself.
+#[derive(Clone, Copy)]
+pub enum Command<'a> {
+    /// A blank line or a comment.
+    Nothing,
+    Unknown,
+    Text { word: u16 },
+    Word { text: &'a [u8] },
+    List { file: &'a [u8] },
+    FlatMemory { size: u32 },
+    SplitMemory { fixed: u32, plain: u32 },
+    SplitMemoryOver { file: &'a [u8], plain: u32 },
+    Load { file: &'a [u8] },
+    Bytes { address: u32, count: u32 },
+}
+
+/// The command that a line is.
+pub fn parse_command<'a>(line: &'a [u8]) -> Command<'a>
+    ensures { λ r. ⌜ said r ≡ commandOf (now (line .entry)) ⌝ }
+{
+    if is_passed_over(line) {
+        return Command::Nothing;
+    }
+    let words = split_word(line);
+    match verb_named(words.word) {
+        Some(verb) => or_unknown(taken(verb, words.rest)),
+        None => Command::Unknown,
+    }
+}
+
+/// Whether a line is blank or a comment.
+fn is_passed_over(line: &[u8]) -> bool
+    ensures { λ r. ⌜ r ≡ passedOver (now (line .entry)) ⌝ }
+{
+    line.len() == 0 || line[0] == b'#'
+}
+
+fn or_unknown<'a>(taken: Option<Command<'a>>) -> Command<'a>
+    ensures { λ r. ⌜ said r ≡ orUnknown (saidSome (taken .entry)) ⌝ }
+{
+    match taken {
+        Some(command) => command,
+        None => Command::Unknown,
+    }
+}
+
+/// The table of commands.
+fn command_rows() -> &'static [CommandRow]
+    ensures { λ r. ⌜ now r ≡ commandRows ⌝ }
+{
+    &COMMANDS
+}
+
+/// The row of a name.
+fn row_named(word: &[u8]) -> Option<CommandRow>
+    ensures { λ r. ⌜ r ≡ rowNamed (nameOf (now (word .entry))) ⌝ }
+{
+    match Name::of(word) {
+        Some(name) => first_match(command_rows(), name),
+        None => None,
+    }
+}
+
+/// What a name stands for.
+fn verb_named(word: &[u8]) -> Option<Verb>
+    ensures { λ r. ⌜ r ≡ verbOf (now (word .entry)) ⌝ }
+{
+    match row_named(word) {
+        Some(row) => Some(row.verb),
+        None => None,
+    }
+}
+
+/// The command with what stands behind its name, if that is what it takes.
+fn taken<'a>(verb: Verb, rest: Option<&'a [u8]>) -> Option<Command<'a>>
+    ensures { λ r. ⌜ saidSome r ≡ takenOf verb (lent (rest .entry)) ⌝ }
+{
+    match verb {
+        Verb::Text => {
+            let word = one_number(rest, MOST_WORD)? as u16;
+            Some(Command::Text { word })
+        }
+        Verb::Word => Some(Command::Word { text: rest? }),
+        Verb::List => Some(Command::List { file: rest? }),
+        Verb::Load => Some(Command::Load { file: rest? }),
+        Verb::Memory => memory(rest?),
+        Verb::Bytes => {
+            let pair = two_numbers(rest, u32::MAX, MOST_SHOWN)?;
+            Some(Command::Bytes {
+                address: pair.first,
+                count: pair.second,
+            })
+        }
+    }
+}
+
+/// The memory that `flat N`, `split R W` or `split FILE W` asks for.
+fn memory<'a>(line: &'a [u8]) -> Option<Command<'a>>
+    ensures { λ r. ⌜ saidSome r ≡ memoryOf (now (line .entry)) ⌝ }
+{
+    let words = split_word(line);
+    if same_word(words.word, b"flat") {
+        let size = one_number(words.rest, u32::MAX)?;
+        return Some(Command::FlatMemory { size });
+    }
+    if same_word(words.word, b"split") {
+        return split_memory(words.rest?);
+    }
+    None
+}
+
+/// A split memory over areas of these sizes, or over a file and an area of this size.
+fn split_memory<'a>(line: &'a [u8]) -> Option<Command<'a>>
+    ensures { λ r. ⌜ saidSome r ≡ areaOf (now (line .entry)) ⌝ }
+{
+    let words = split_word(line);
+    let plain = one_number(words.rest, u32::MAX)?;
+    match parse_number(words.word, u32::MAX) {
+        Some(fixed) => Some(Command::SplitMemory { fixed, plain }),
+        None => Some(Command::SplitMemoryOver {
+            file: words.word,
+            plain,
+        }),
+    }
+}
