@@ -3,6 +3,7 @@ use Rattle.records.specs.Records.{Reading}
 use Rattle.loading.specs.Loads.{Final, final, loadOf}
 use Rattle.loading.proofs.Turns.{opened-load}
 use Rattle.loading.proofs.Accounts.{accounted-at}
+use Rattle.loading.proofs.Files.{faithful-at}
 use Rattle.loading.proofs.load.load.Needs as need
 
 pub returns-in-Ok : need.returns-in-Ok
@@ -22,4 +23,5 @@ returns-in-Ok g c =
       marks = c .load-records .ensures .marks;
       rest = c .load-records .ensures .rest;
       accounted = accounted-at ms bs f r after answer bytes;
+      faithful = faithful-at ms bs f r after answer bytes;
     }
