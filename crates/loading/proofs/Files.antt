@@ -1,10 +1,10 @@
 -- A file made of blocks is loaded as those blocks.
 use Prim.Native.Nat.{ℕ, zero, suc, _+_, _-_, _<_, _≤_}
-use native.Mathlib.Nat.{add-zero, add-assoc}
+use native.Mathlib.Nat.{add-zero}
 use native.Mathlib.Omega.{arith}
 use mathlib.Core.Path.{_≡_, refl, sym, ap, _∙_, subst}
-use mathlib.Core.Bool.{Bool, true, false, cond}
-use mathlib.Core.List.{List, [], _∷_, _++_}
+use mathlib.Core.Bool.{true, false, cond}
+use mathlib.Core.List.{List, [], _∷_}
 use lib.Dec.{ltb, eqb}
 use lib.ListN.{length, drop}
 use Rattle.std.specs.shelf.Lists.{All}
@@ -16,11 +16,10 @@ use Rattle.std.specs.declared.result.Result.the-variants.{Ok, Err}
 use Rattle.memory.specs.declared.Mark.{Mark}
 use Rattle.records.specs.declared.fault.RecordFault.{RecordFault}
 use Rattle.records.specs.declared.fault.RecordFault.the-variants.{TooLong}
-use Rattle.records.specs.Records.{Item, block, end, Reading, recordOf, openOf}
-use Rattle.records.specs.Files.{blockBytes, endBytes}
+use Rattle.records.specs.Records.{Item, block, Reading, recordOf, openOf}
+use Rattle.records.specs.Files.{endBytes}
 use Rattle.records.proofs.Within.{record-within}
 use Rattle.records.proofs.ReadBack.{block-reads, block-next, end-reads}
-use Rattle.loading.specs.declared.fault.Misplaced.the-variants.{Past}
 use Rattle.loading.specs.declared.fault.PlaceFault.{PlaceFault}
 use Rattle.loading.specs.declared.fault.PutFault.{PutFault}
 use Rattle.loading.specs.declared.fault.PutFault.the-variants as put
@@ -28,7 +27,7 @@ use Rattle.loading.specs.declared.load.Loaded.{Loaded}
 use Rattle.loading.specs.declared.load.LoadRefusal.{LoadRefusal}
 use Rattle.loading.specs.Blocks.{overlaid, placeOf, summed, putOf}
 use Rattle.loading.specs.Closing.{closeOf}
-use Rattle.loading.specs.Loads.{Turn, Final, final, refusal, putBy, turnBy, turnOf, continued, finishBy, loadFrom, loadBy, loadOf}
+use Rattle.loading.specs.Loads.{Turn, Final, final, putBy, turnBy, continued, finishBy, loadFrom, loadBy, loadOf}
 use Rattle.loading.specs.Laws.{Block, Fits, overlaidAll, Sized, total, recordsBefore, fileOf, Faithful}
 use Rattle.loading.proofs.Places.{place-plain}
 use Rattle.loading.proofs.Accounts.{put-fits}

@@ -1,5 +1,5 @@
 //! Loading a whole file into a memory.
-ghost use Prim.Native.Nat.{ℕ, _+_};
+ghost use Prim.Native.Nat.{_+_};
 ghost use mathlib.Core.Path.{_≡_};
 ghost use mathlib.Core.Bool.{true, false};
 ghost use lib.ListN.{length};
@@ -51,10 +51,7 @@ pub fn load<Mem: Memory>(memory: &mut Mem, file: &[u8]) -> Result<Loaded, LoadRe
     ensures faithful { λ r. ⌜ Faithful (marks (now (memory .entry))) (bytes (now (memory .entry))) (bytes (now (memory .exit))) (now (file .entry)) r ⌝ }
 {
     match Reader::open(file) {
-        Ok(reader) => {
-            let mut reader = reader;
-            load_records(memory, &mut reader)
-        }
+        Ok(mut reader) => load_records(memory, &mut reader),
         Err(fault) => Err(LoadRefusal {
             fault: LoadFault::from(fault),
             offset: 0,

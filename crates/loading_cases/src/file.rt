@@ -4,20 +4,20 @@ use std::alloc::Global;
 
 /// The records of a file so far.
 #[derive(Drop)]
-pub struct Blocks {
+pub(crate) struct Blocks {
     bytes: Vec<u8>,
 }
 
 impl Blocks {
     /// No record yet.
-    pub fn new(heap: Global) -> Blocks {
+    pub(crate) fn new(heap: Global) -> Blocks {
         Blocks {
             bytes: Vec::new(heap),
         }
     }
 
     /// One block more, at most as long as 16 bits can say.
-    pub fn block(&mut self, address: u16, body: &[u8]) -> Result<(), AllocError> {
+    pub(crate) fn block(&mut self, address: u16, body: &[u8]) -> Result<(), AllocError> {
         let count = u16::try_from(body.len()).unwrap_or(0);
         self.bytes.extend_from_slice(&[0x53, 0x33, 1])?;
         self.bytes.extend_from_slice(&address.to_le_bytes())?;
@@ -26,7 +26,7 @@ impl Blocks {
     }
 
     /// The file, ended with this sum.
-    pub fn end(mut self, sum: u16) -> Result<Vec<u8>, AllocError> {
+    pub(crate) fn end(mut self, sum: u16) -> Result<Vec<u8>, AllocError> {
         self.bytes.extend_from_slice(&[0x53, 0x33, 2])?;
         self.bytes.extend_from_slice(&sum.to_le_bytes())?;
         let Blocks { bytes } = self;

@@ -3,7 +3,6 @@ mod file;
 mod show;
 
 use file::Blocks;
-use loading::convert::PutFromPlace;
 use loading::load::load;
 use loading::ticket::Ticket;
 use memory::Memory;
@@ -13,7 +12,6 @@ use memory::split::SplitMemory;
 use memory::split::meaning::SplitMeaning;
 use show::show;
 use show::show_put;
-use std::alloc::Global;
 use std::error::AnyError;
 
 /// Loads `file` into a flat memory of `size` zero bytes.

@@ -27,7 +27,7 @@ fn show_place(rt: &LibcRuntime, place: Option<PlaceFault>) -> Result<(), AnyErro
 }
 
 /// Prints the answer of a load.
-pub fn show(
+pub(crate) fn show(
     rt: &LibcRuntime,
     name: &str,
     answer: Result<Loaded, LoadRefusal>,
@@ -54,7 +54,7 @@ pub fn show(
 }
 
 /// Prints the answer of a ticket to a block.
-pub fn show_put(rt: &LibcRuntime, answer: Result<u16, PutFault>) -> Result<(), AnyError> {
+pub(crate) fn show_put(rt: &LibcRuntime, answer: Result<u16, PutFault>) -> Result<(), AnyError> {
     match answer {
         Ok(sum) => {
             println!(rt, "put {sum}")?;

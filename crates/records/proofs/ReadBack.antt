@@ -1,10 +1,10 @@
 -- A record that the format has written is read back.
-use Prim.Native.Nat.{ℕ, _+_, _-_, _*_, _/_, _%_, _≤_, _<_}
+use Prim.Native.Nat.{ℕ, _+_, _-_, _*_, _≤_}
 use native.Mathlib.Nat.{add-zero, add-assoc}
 use native.Mathlib.Omega.{arith}
 use mathlib.Core.Path.{_≡_, refl, sym, ap, _∙_}
-use mathlib.Core.List.{List, [], _∷_, _++_}
-use mathlib.Core.Bool.{Bool, true, false, cond}
+use mathlib.Core.List.{List, _++_}
+use mathlib.Core.Bool.{cond}
 use lib.Dec.{ltb, eqb}
 use lib.ListN.{length, getD, take, drop}
 use Rattle.std.proofs.shelf.Lists.{length-drop, length-append, getD-drop, drop-drop, drop-at, take-at}
@@ -12,8 +12,8 @@ use Rattle.std.proofs.shelf.Tests.{le-ltb, eq-eqb, ne-eqb, cond-true, cond-fals
 use Rattle.std.specs.declared.result.Result.{Result}
 use Rattle.std.specs.declared.result.Result.the-variants.{Ok, Err}
 use Rattle.records.specs.declared.fault.RecordFault.{RecordFault}
-use Rattle.records.specs.declared.fault.RecordFault.the-variants.{NoMark, CutShort, UnknownKind, BlockLength, TrailingBytes}
-use Rattle.records.specs.Records.{Item, block, end, wordAt, blockBy, blockOf, endOf, kindOf, recordOf}
+use Rattle.records.specs.declared.fault.RecordFault.the-variants.{NoMark, CutShort, BlockLength, TrailingBytes}
+use Rattle.records.specs.Records.{Item, block, end, wordAt, blockBy, kindOf, recordOf}
 use Rattle.records.specs.Files.{low, high, blockBytes, endBytes}
 
 -- a check that is passed, and a test that is met

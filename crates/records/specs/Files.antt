@@ -1,6 +1,6 @@
 -- The bytes of a record, as the format writes it.
 use Prim.Native.Nat.{ℕ, _/_, _%_}
-use mathlib.Core.List.{List, [], _∷_, _++_}
+use mathlib.Core.List.{List, [], _∷_}
 use lib.ListN.{length}
 
 -- A 16-bit number is written low byte first.

@@ -1,6 +1,6 @@
-use mathlib.Core.Path.{_≡_, ap}
+use mathlib.Core.Path.{ap}
 use Rattle.records.specs.Records.{Reading}
-use Rattle.loading.specs.Loads.{Final, final, loadOf}
+use Rattle.loading.specs.Loads.{Final, final}
 use Rattle.loading.proofs.Turns.{opened-load}
 use Rattle.loading.proofs.Accounts.{accounted-at}
 use Rattle.loading.proofs.Files.{faithful-at}
