@@ -1,5 +1,5 @@
 -- The law of every load: the accepted blocks account for each byte.
-use Prim.Native.Nat.{ℕ, zero, suc, _+_, _-_, _<_, _≤_}
+use Prim.Native.Nat.{ℕ, zero, suc, _+_, _-_, _<_}
 use native.Mathlib.Nat.{add-zero}
 use native.Mathlib.Omega.{arith}
 use mathlib.Core.Path.{_≡_, refl, sym, ap, _∙_, subst, subst₂}
@@ -7,9 +7,9 @@ use mathlib.Core.Logic.{_⊎_, inl, inr}
 use mathlib.Core.Bool.{Bool, true, false, cond}
 use mathlib.Core.List.{List, [], _∷_}
 use lib.Dec.{ltb, eqb}
-use lib.ListN.{length, getD}
+use lib.ListN.{length}
 use Rattle.std.specs.shelf.Lists.{All}
-use Rattle.std.proofs.shelf.Tests.{cases-lt, ltb-true, ltb-false, lt-ltb, le-ltb, cond-true, cond-false}
+use Rattle.std.proofs.shelf.Tests.{cases-lt}
 use Rattle.std.proofs.shelf.Ways.{tells}
 use Rattle.std.specs.declared.result.Result.{Result}
 use Rattle.std.specs.declared.result.Result.the-variants.{Ok, Err}
@@ -18,7 +18,7 @@ use Rattle.memory.specs.declared.Mark.the-variants.{Plain}
 use Rattle.memory.specs.Meaning.{markAt}
 use Rattle.records.specs.declared.fault.RecordFault.{RecordFault}
 use Rattle.records.specs.declared.fault.RecordFault.the-variants.{TooLong}
-use Rattle.records.specs.Records.{Item, block, end, Reading, recordOf, after, openOf}
+use Rattle.records.specs.Records.{Item, block, end, recordOf, after}
 use Rattle.loading.specs.declared.fault.CloseFault.{CloseFault}
 use Rattle.loading.specs.declared.fault.PlaceFault.{PlaceFault}
 use Rattle.loading.specs.declared.fault.PutFault.{PutFault}
@@ -27,7 +27,7 @@ use Rattle.loading.specs.declared.load.Loaded.{Loaded}
 use Rattle.loading.specs.declared.load.LoadRefusal.{LoadRefusal}
 use Rattle.loading.specs.Blocks.{overlaid, placeOf, summed, putOf}
 use Rattle.loading.specs.Closing.{closeOf}
-use Rattle.loading.specs.Loads.{Turn, Final, putBy, turnBy, turnOf, continued, finishBy, loadFrom, loadBy, loadOf}
+use Rattle.loading.specs.Loads.{Turn, Final, putBy, turnBy, continued, finishBy, loadFrom, loadBy, loadOf}
 use Rattle.loading.specs.Laws.{Block, Covers, Uncovered, carries, LastCarries, Fits, overlaidAll, blockBefore, blocksFrom, blocksOf, accepted, Accounted}
 use Rattle.loading.proofs.Places.{place-free}
 

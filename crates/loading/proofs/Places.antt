@@ -1,10 +1,10 @@
 -- Where a block may lie: at most two frames decide, and a free place is plain byte for byte.
 use Prim.Native.Nat.{ℕ, zero, suc, _+_, _-_, _*_, _/_, _<_, _≤_}
-use native.Mathlib.Nat.{add-assoc, zero-add, add-zero}
+use native.Mathlib.Nat.{zero-add, add-zero}
 use native.Mathlib.Omega.{arith}
-use mathlib.Core.Path.{_≡_, refl, sym, ap, _∙_, subst, fun-ext}
-use mathlib.Core.Logic.{_⊎_, inl, inr}
-use mathlib.Core.Bool.{Bool, true, false, cond}
+use mathlib.Core.Path.{_≡_, refl, sym, ap, _∙_, fun-ext}
+use mathlib.Core.Logic.{inl, inr}
+use mathlib.Core.Bool.{Bool, true, false}
 use mathlib.Core.List.{List}
 use lib.Dec.{ltb}
 use lib.ListN.{length, getD, take}
@@ -152,3 +152,18 @@ written-more marks bytes now next a i body h plain e d =
 
 pub overlaid-all : (bytes : ℕ → ℕ) (a i : ℕ) (body : List ℕ) → length body ≤ i → overlaid bytes a (take i body) ≡ overlaid bytes a body
 overlaid-all bytes a i body h = ap (λ (xs : List ℕ). overlaid bytes a xs) (take-all i body h)
+
+-- a place that is plain byte for byte is free
+plain-free : (marks : ℕ → Mark) (a n : ℕ) → AllPlain marks a n → firstRefused marks a n ≡ Ok tt
+plain-free marks a zero plain = refl
+plain-free marks a (suc n) plain =
+    let here : markAt marks a ≡ Plain = ap (λ (k : ℕ). markAt marks k) (sym (add-zero a)) ∙ plain 0 (omega arith) in
+    ap (λ (x : Result (Unit {0}) PlaceFault). andThen x (firstRefused marks (a + 1) n)) (plain-byte marks a here)
+    ∙ plain-free marks (a + 1) n (λ i h.
+    let at : a + 1 + i ≡ a + (i + 1) = omega arith in
+    ap (λ (k : ℕ). markAt marks k) at ∙ plain (i + 1) (omega arith))
+
+pub place-plain : (marks : ℕ → Mark) (a n : ℕ) → a + n ≤ 65536 → AllPlain marks a n → placeOf marks a n ≡ Ok tt
+place-plain marks a n room plain =
+    cond-false (ltb 65536 (a + n)) (Err (record { fault = Past; address = 65536 })) (firstRefused marks a n) (le-ltb 65536 (a + n) room)
+    ∙ plain-free marks a n plain

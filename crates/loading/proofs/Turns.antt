@@ -1,7 +1,7 @@
 -- The load's loop: one record more.
 use Prim.Native.Nat.{ℕ, suc, _+_, _-_, _<_, _≤_}
 use native.Mathlib.Omega.{arith}
-use mathlib.Core.Path.{_≡_, refl, sym, ap, _∙_, subst}
+use mathlib.Core.Path.{_≡_, refl, sym, ap, _∙_}
 use mathlib.Core.Bool.{Bool, true, false, cond}
 use mathlib.Core.List.{List}
 use lib.Dec.{ltb}
@@ -11,12 +11,11 @@ use Rattle.std.specs.declared.result.Result.the-variants.{Ok, Err}
 use Rattle.memory.specs.declared.Mark.{Mark}
 use Rattle.records.specs.declared.fault.RecordFault.{RecordFault}
 use Rattle.records.specs.declared.fault.RecordFault.the-variants.{TooLong}
-use Rattle.records.specs.Records.{Item, block, end, Reading, recordOf, sizeOf, openOf}
+use Rattle.records.specs.Records.{Item, block, end, Reading, recordOf, openOf}
 use Rattle.records.proofs.Within.{record-within}
 use Rattle.loading.specs.declared.fault.PutFault.{PutFault}
-use Rattle.loading.specs.declared.fault.LoadFault.{LoadFault}
 use Rattle.loading.specs.declared.load.Step.{Step}
-use Rattle.loading.specs.declared.load.Step.the-variants.{Put, End}
+use Rattle.loading.specs.declared.load.Step.the-variants.{Put}
 use Rattle.loading.specs.Blocks.{putOf}
 use Rattle.loading.specs.Loads.{Turn, Final, turn, putBy, turnBy, turnOf, continued, loadFrom, loadBy, loadOf}
 

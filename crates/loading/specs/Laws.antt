@@ -2,16 +2,19 @@
 use Prim.Native.Nat.{ℕ, zero, suc, _+_, _-_, _<_, _≤_}
 use mathlib.Core.Path.{_≡_}
 use mathlib.Core.Logic.{_⊎_}
-use mathlib.Core.List.{List, [], _∷_}
+use mathlib.Core.Bool.{true}
+use mathlib.Core.List.{List, [], _∷_, _++_}
 use lib.ListN.{length, getD}
 use Rattle.std.specs.shelf.Lists.{All}
 use Rattle.std.specs.declared.result.Result.{Result}
 use Rattle.std.specs.declared.result.Result.the-variants.{Ok, Err}
+use Rattle.std.specs.Results.{isOk}
 use Rattle.memory.specs.declared.Mark.{Mark}
 use Rattle.memory.specs.declared.Mark.the-variants.{Plain}
 use Rattle.memory.specs.Meaning.{markAt}
 use Rattle.records.specs.declared.fault.RecordFault.{RecordFault}
 use Rattle.records.specs.Records.{Item, block, end, recordOf, after}
+use Rattle.records.specs.Files.{blockBytes, endBytes}
 use Rattle.loading.specs.declared.load.Loaded.{Loaded}
 use Rattle.loading.specs.declared.load.LoadRefusal.{LoadRefusal}
 use Rattle.loading.specs.Blocks.{AllPlain, overlaid}
@@ -72,3 +75,27 @@ pub record Accounted (marks : ℕ → Mark) (before : ℕ → ℕ) (now : ℕ �
   pub counted : length (accepted answer file) ≡ blocksOf answer
   pub carried : (k : ℕ) → (Uncovered (accepted answer file) k × (now k ≡ before k)) ⊎ LastCarries (accepted answer file) k (now k)
   pub plain : (k : ℕ) → (now k ≡ before k → ⊥) → (k < 65536) × (markAt marks k ≡ Plain)
+
+-- A block that a file may hold: 1 to 1,024 bytes.
+abbrev pub Sized : Block → Type 0
+Sized b = (1 ≤ length (b .body)) × (length (b .body) ≤ 1024)
+
+abbrev pub total : List Block → ℕ
+total [] = 0
+total (b ∷ blocks) = length (b .body) + total blocks
+
+-- The file that the format's rules make of a list of blocks: a record for each, and the end
+-- record with the sum of their lengths.
+abbrev pub recordsBefore : List Block → List ℕ → List ℕ
+recordsBefore [] ending = ending
+recordsBefore (b ∷ blocks) ending = blockBytes (b .address) (b .body) ++ recordsBefore blocks ending
+
+abbrev pub fileOf : List Block → List ℕ
+fileOf blocks = recordsBefore blocks (endBytes (total blocks))
+
+-- Such a file, if it is not too long, is accepted exactly when each block fits; the load then
+-- answers the number of blocks and the sum, and leaves the blocks laid one over the other.
+pub record Faithful (marks : ℕ → Mark) (before : ℕ → ℕ) (now : ℕ → ℕ) (file : List ℕ) (answer : Result Loaded LoadRefusal) : Type 0 where
+  pub taken : (blocks : List Block) → file ≡ fileOf blocks → length file ≤ 65535 → All Sized blocks → All (Fits marks) blocks
+      → (answer ≡ Ok (record { blocks = length blocks; sum = total blocks })) × (now ≡ overlaidAll before blocks)
+  pub fitting : (blocks : List Block) → file ≡ fileOf blocks → length file ≤ 65535 → All Sized blocks → isOk answer ≡ true → All (Fits marks) blocks

@@ -1,10 +1,10 @@
 //! Loading a whole file into a memory.
-ghost use Prim.Native.Nat.{ℕ, _+_};
+ghost use Prim.Native.Nat.{_+_};
 ghost use mathlib.Core.Path.{_≡_};
 ghost use mathlib.Core.Bool.{true, false};
 ghost use lib.ListN.{length};
 ghost use Rattle.loading.specs.Closing.{closeOf};
-ghost use Rattle.loading.specs.Laws.{Accounted};
+ghost use Rattle.loading.specs.Laws.{Accounted, Faithful};
 ghost use Rattle.loading.specs.Loads.{turn, turnOf, final, finishBy, loadFrom, loadOf};
 use crate::convert::LoadFromClose;
 use crate::convert::LoadFromPut;
@@ -48,12 +48,10 @@ pub fn load<Mem: Memory>(memory: &mut Mem, file: &[u8]) -> Result<Loaded, LoadRe
     ensures marks { λ _. ⌜ marks (now (memory .exit)) ≡ marks (now (memory .entry)) ⌝ }
     ensures rest { λ _. ⌜ rest (now (memory .exit)) ≡ rest (now (memory .entry)) ⌝ }
     ensures accounted { λ r. ⌜ Accounted (marks (now (memory .entry))) (bytes (now (memory .entry))) (bytes (now (memory .exit))) (now (file .entry)) r ⌝ }
+    ensures faithful { λ r. ⌜ Faithful (marks (now (memory .entry))) (bytes (now (memory .entry))) (bytes (now (memory .exit))) (now (file .entry)) r ⌝ }
 {
     match Reader::open(file) {
-        Ok(reader) => {
-            let mut reader = reader;
-            load_records(memory, &mut reader)
-        }
+        Ok(mut reader) => load_records(memory, &mut reader),
         Err(fault) => Err(LoadRefusal {
             fault: LoadFault::from(fault),
             offset: 0,

@@ -1,16 +1,13 @@
 -- A write to the split memory, as the writable area holds it.
 use Prim.Native.Nat.{ℕ, _+_, _-_, _*_, _/_, _<_, _≤_}
 use native.Mathlib.Omega.{arith}
-use mathlib.Core.Path.{_≡_, refl, sym, ap, _∙_, fun-ext}
+use mathlib.Core.Path.{_≡_, fun-ext}
 use mathlib.Core.List.{List}
-use mathlib.Core.Bool.{cond}
-use lib.Dec.{ltb, eqb}
-use lib.ListN.{length, getD, set}
+use lib.ListN.{length, set}
 use base.Fml.{GName}
 use Rattle.std.proofs.shelf.Lists.{length-set, getD-set-same, getD-set-other}
-use Rattle.std.proofs.shelf.Tests.{cases-eq}
 use Rattle.std.proofs.shelf.Ways.{tells}
-use Rattle.memory.specs.declared.Mark.the-variants.{Plain, Fixed, Absent}
+use Rattle.memory.specs.declared.Mark.the-variants.{Plain}
 use Rattle.memory.specs.Meaning.{put}
 use Rattle.memory.specs.Flat.{wholeFrames}
 use Rattle.memory.specs.Split.{plainFrames, splitMarks, splitBytes, splitRest}

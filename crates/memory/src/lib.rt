@@ -5,7 +5,7 @@ pub mod flat;
 pub mod lending;
 pub mod split;
 
-ghost use Prim.Native.Nat.{ℕ, _/_};
+ghost use Prim.Native.Nat.{ℕ};
 ghost use mathlib.Core.Path.{_≡_};
 ghost use Rattle.memory.specs.declared.Mark.{Mark};
 ghost use Rattle.memory.specs.declared.Mark.the-variants.{Absent};

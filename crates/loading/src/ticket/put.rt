@@ -1,10 +1,10 @@
 //! Putting a block: where it may lie, and writing it whole.
-ghost use Prim.Native.Nat.{ℕ, _+_, _≤_, _<_};
+ghost use Prim.Native.Nat.{_+_, _≤_, _<_};
 ghost use mathlib.Core.Path.{_≡_};
 ghost use mathlib.Core.Bool.{false};
 ghost use lib.ListN.{length};
 ghost use Rattle.memory.specs.Meaning.{writeAnswer};
-ghost use Rattle.loading.specs.Blocks.{placed, firstRefused, placeOf, AllPlain, overlaid, putOf, sumAfter, bytesAfter};
+ghost use Rattle.loading.specs.Blocks.{placed, placeOf, AllPlain, overlaid, putOf, sumAfter, bytesAfter};
 use crate::convert::MisplacedFromMemory;
 use crate::convert::PutFromPlace;
 use crate::fault::Misplaced;

@@ -1,9 +1,7 @@
 //! What the memory over a read-only and a writable buffer means, and its accesses.
 ghost use Prim.Native.Nat.{_-_, _*_, _<_};
-ghost use mathlib.Core.Path.{_≡_};
 ghost use denote.Ref.{now, name};
 ghost use lib.ListN.{length};
-ghost use Rattle.memory.specs.Flat.{wholeFrames};
 ghost use Rattle.memory.specs.Split.{splitMarks, splitBytes, splitRest};
 use crate::FRAME_SIZE;
 use crate::Mark;

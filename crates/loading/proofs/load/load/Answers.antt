@@ -1,8 +1,9 @@
-use mathlib.Core.Path.{_≡_, ap}
+use mathlib.Core.Path.{ap}
 use Rattle.records.specs.Records.{Reading}
-use Rattle.loading.specs.Loads.{Final, final, loadOf}
+use Rattle.loading.specs.Loads.{Final, final}
 use Rattle.loading.proofs.Turns.{opened-load}
 use Rattle.loading.proofs.Accounts.{accounted-at}
+use Rattle.loading.proofs.Files.{faithful-at}
 use Rattle.loading.proofs.load.load.Needs as need
 
 pub returns-in-Ok : need.returns-in-Ok
@@ -22,4 +23,5 @@ returns-in-Ok g c =
       marks = c .load-records .ensures .marks;
       rest = c .load-records .ensures .rest;
       accounted = accounted-at ms bs f r after answer bytes;
+      faithful = faithful-at ms bs f r after answer bytes;
     }

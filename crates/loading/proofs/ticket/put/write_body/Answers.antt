@@ -1,5 +1,5 @@
 use Prim.Native.Nat.{ℕ, _+_, _/_}
-use mathlib.Core.Path.{_≡_, _∙_, ap}
+use mathlib.Core.Path.{_∙_, ap}
 use Rattle.memory.specs.declared.Mark.{Mark}
 use Rattle.loading.proofs.Places.{written-more, overlaid-all}
 use Rattle.loading.proofs.ticket.put.write_body.Needs as need

@@ -1,7 +1,7 @@
 use borrow.Author.Needs.{needs}
 use native.Mathlib.Omega.{arith}
 use mathlib.Core.Path.{_≡_, _∙_, ap}
-use Prim.Native.Nat.{ℕ, _<_, _/_}
+use Prim.Native.Nat.{_<_, _/_}
 use lib.ListN.{length}
 use Rattle.memory.specs.declared.Mark.{Mark}
 use Rattle.memory.specs.declared.Mark.the-variants.{Plain}
