@@ -1,0 +1,4 @@
+pub mod Answers
+pub mod States
+pub mod Sound
+pub mod Calls
