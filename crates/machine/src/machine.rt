@@ -4,6 +4,7 @@ mod lines;
 mod ports;
 mod readings;
 mod starting;
+mod stepping;
 
 ghost use mathlib.Core.Path.{_≡_};
 ghost use mathlib.Core.Bool.{true};

@@ -1,6 +1,7 @@
 //! The machine at its start.
 ghost use mathlib.Core.Path.{_≡_};
 ghost use Rattle.machine.specs.States.{startState};
+use crate::entry::SYSTEM_MODE;
 use crate::machine::Machine;
 use crate::state::Ports;
 use crate::state::State;
@@ -10,9 +11,6 @@ use translation::table::PageTable;
 
 /// Where the first instruction lies.
 const START_ADDRESS: u16 = 0x8000;
-
-/// The status word of system mode with interrupts off.
-const SYSTEM_MODE: u16 = 1;
 
 fn start_state() -> State
     ensures { λ r. ⌜ r ≡ startState ⌝ }
