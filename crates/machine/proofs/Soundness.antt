@@ -34,27 +34,24 @@ use Rattle.translation.specs.Accesses.{fetched, loaded, storeAnswer}
 use Rattle.translation.specs.Events.{codeOf}
 use Rattle.translation.specs.Tables.{blankEntry, entryAt, unused, virtualOf}
 use Rattle.machine.specs.declared.answer.StepAnswer.{StepAnswer}
-use Rattle.machine.specs.declared.execution.Progress.{Progress}
-use Rattle.machine.specs.declared.execution.Progress.the-variants.{Ran, Halted}
+use Rattle.machine.specs.declared.answer.StepAnswer.the-variants as answer
 use Rattle.machine.specs.declared.state.State.{State}
 use Rattle.machine.specs.declared.state.SystemRegisters.{SystemRegisters}
 use Rattle.machine.specs.declared.state.Tables.{Tables}
 use Rattle.machine.specs.Worlds.{Outcome, World, outcome, withState}
-use Rattle.machine.specs.States.{registerAt, withPc}
+use Rattle.machine.specs.States.{registerAt}
 use Rattle.machine.specs.Registers.{jumpedIf}
 use Rattle.machine.specs.Sound.{entriesSound, entrySound, haltSound, sound, systemSound, tablesSound}
 use Rattle.machine.specs.Status.{disabled, enabled, isUser, systemSet}
 use Rattle.machine.specs.TableWrites.{entrySet, fieldSet, flushedIf, tablesFlushed}
 use Rattle.machine.specs.Waiting.{interruptGiven, isInterrupted, lowestWaiting}
 use Rattle.machine.specs.Control.{controlled, progressOf, statusPut}
-use Rattle.machine.specs.Execution.{executed, loadedBy, loadedInto, privilegedBy, storeAnsweredBy, storedFrom}
+use Rattle.machine.specs.Execution.{Execution, executed, loadedBy, loadedInto, privilegedBy, storeAnsweredBy, storedFrom}
 use Rattle.machine.specs.Steps.{advanced, concluded, entered, entering, fetchedBy, performed, stepOf}
 
 -- a sound state that is not halted
-pub record Going (s : State) : Type 0 where
-  pub system : systemSound (s .system) ≡ true
-  pub tables : tablesSound (s .tables) ≡ true
-  pub running : s .halted ≡ false
+abbrev pub Going : State → Type 0
+Going s = (systemSound (s .system) ≡ true) × (tablesSound (s .tables) ≡ true) × (s .halted ≡ false)
 
 -- the system registers' three bounds
 pub record Bounded (s : SystemRegisters) : Type 0 where
@@ -75,13 +72,13 @@ made-sound : (s : State) → systemSound (s .system) ≡ true → tablesSound (s
 made-sound s a b c = and-from _ _ a (and-from _ _ b c)
 
 pub going-sound : (s : State) → Going s → sound s ≡ true
-going-sound s g = made-sound s (g .system) (g .tables) (ap (λ (b : Bool). haltSound b (s .system .status)) (g .running))
+going-sound s g = made-sound s (g .0) (g .1) (ap (λ (b : Bool). haltSound b (s .system .status)) (g .2))
 
 pub sound-going : (s : State) → sound s ≡ true → s .halted ≡ false → Going s
 sound-going s h r =
     let a = and-parts (systemSound (s .system)) _ h in
     let b = and-parts (tablesSound (s .tables)) _ (a .1) in
-    record { system = a .0; tables = b .0; running = r }
+    (a .0, b .0, r)
 
 -- an entry
 code-small : (e : Event) → codeOf e < 16
@@ -100,11 +97,8 @@ code-small event.SystemCall = omega arith
 code-small event.Interrupt = omega arith
 
 pub entered-going : (e : Event) (detail : ℕ) (s : State) → Going s → Going (entered e detail s)
-entered-going e detail s g = record {
-  system = bounded-sound (entered e detail s .system) (record { saved = bounded (s .system) (g .system) .status; status = omega arith; event = code-small e });
-  tables = g .tables;
-  running = g .running;
-}
+entered-going e detail s g =
+    (bounded-sound (entered e detail s .system) (record { saved = bounded (s .system) (g .0) .status; status = omega arith; event = code-small e }), g .1, g .2)
 
 -- the tables
 entries-set : (es : List PageEntry) (i : ℕ) (e : PageEntry) → entriesSound es ≡ true → entrySound e ≡ true → entriesSound (set es i e) ≡ true
@@ -161,130 +155,125 @@ system-set-sound r word s h = bounded-sound (systemSet r word s) (go r (bounded 
     go system.StackPointer b = record { saved = b .saved; status = b .status; event = b .event }
     go system.Status b = record { saved = b .saved; status = omega arith; event = b .event }
 
--- the privileged instructions
-taken-sound : (o : Option ℕ) (d : Register) (s : State) → Going s → sound (interruptGiven o d s) ≡ true
-taken-sound None d s g = going-sound s g
-taken-sound (Some line) d s g = going-sound s g
+-- what a step leaves: a machine that goes on, or a halted one that is sound
+abbrev pub Good : StepAnswer → State → Type 0
+Good answer.Ran s = Going s
+Good answer.Halted s = sound s ≡ true
+Good (answer.Entered e) s = Going s
 
+abbrev GoodAfter : Outcome StepAnswer → Type 0
+GoodAfter o = Good (o .answer) (o .after .state)
+
+pub good-sound : (r : StepAnswer) (s : State) → Good r s → sound s ≡ true
+good-sound answer.Ran s g = going-sound s g
+good-sound answer.Halted s g = g
+good-sound (answer.Entered e) s g = going-sound s g
+
+pub good-going : (r : StepAnswer) (s : State) → Good r s → (r ≡ answer.Halted → ⊥) → Going s
+good-going answer.Ran s g n = g
+good-going answer.Halted s g n = absurd (n refl)
+good-going (answer.Entered e) s g n = g
+
+-- what an instruction comes to
+abbrev pub resolved : Execution → Outcome StepAnswer
+resolved x = concluded (x .answer) (x .after)
+
+-- the privileged instructions
 status-going : (s : State) (v : ℕ) → Going s → v < 4 → Going (statusPut v s)
 status-going s v g h =
-    let b = bounded (s .system) (g .system) in
-    record {
-      system = bounded-sound (statusPut v s .system) (record { saved = b .saved; status = h; event = b .event });
-      tables = g .tables;
-      running = g .running;
-    }
+    let b = bounded (s .system) (g .0) in
+    (bounded-sound (statusPut v s .system) (record { saved = b .saved; status = h; event = b .event }), g .1, g .2)
 
-pub controlled-sound : (p : Privileged) (s : State) → Going s → isUser (s .system .status) ≡ false → sound (controlled p s) ≡ true
-controlled-sound privileged.EnableInterrupts s g u = going-sound (controlled privileged.EnableInterrupts s) (status-going s (enabled (s .system .status)) g (omega arith))
-controlled-sound privileged.DisableInterrupts s g u = going-sound (controlled privileged.DisableInterrupts s) (status-going s (disabled (s .system .status)) g (omega arith))
-controlled-sound privileged.ReturnFromEvent s g u =
-    let h = status-going s (s .system .«saved_status») g (bounded (s .system) (g .system) .saved) in
-    going-sound (controlled privileged.ReturnFromEvent s) (record { system = h .system; tables = h .tables; running = h .running })
-controlled-sound (privileged.GetInterrupt d) s g u = taken-sound (lowestWaiting (s .waiting)) d s g
-controlled-sound (privileged.ReadSystem d r) s g u = going-sound s g
-controlled-sound (privileged.WriteSystem r a) s g u =
-    going-sound (controlled (privileged.WriteSystem r a) s)
-    (record { system = system-set-sound r _ (s .system) (g .system); tables = g .tables; running = g .running })
-controlled-sound (privileged.WriteEntry t f b a) s g u =
-    going-sound (controlled (privileged.WriteEntry t f b a) s)
-    (record { system = g .system; tables = entry-sound t f _ _ (s .tables) (g .tables); running = g .running })
-controlled-sound (privileged.Flush a) s g u =
-    going-sound (controlled (privileged.Flush a) s)
-    (record { system = g .system; tables = tables-flushed-sound _ (s .tables) (g .tables); running = g .running })
-controlled-sound privileged.Halt s g u = made-sound (controlled privileged.Halt s) (g .system) (g .tables) (odd (s .system .status) u)
-  where
-    odd : (n : ℕ) → isUser n ≡ false → eqb (n % 2) 1 ≡ true
-    odd n h = eq-eqb _ _ (let e = eqb-false (n % 2) 0 h in omega arith)
+taken-going : (o : Option ℕ) (d : Register) (s : State) → Going s → Going (interruptGiven o d s)
+taken-going None d s g = g
+taken-going (Some line) d s g = g
+
+odd : (n : ℕ) → isUser n ≡ false → eqb (n % 2) 1 ≡ true
+odd n h = eq-eqb _ _ (let e = eqb-false (n % 2) 0 h in omega arith)
+
+controlled-good : (p : Privileged) (w : World) → Going (w .state) → isUser (w .state .system .status) ≡ false
+    → GoodAfter (concluded (Ok (progressOf p)) (withState (controlled p (w .state)) w))
+controlled-good privileged.EnableInterrupts w g u = status-going (w .state) (enabled (w .state .system .status)) g (omega arith)
+controlled-good privileged.DisableInterrupts w g u = status-going (w .state) (disabled (w .state .system .status)) g (omega arith)
+controlled-good privileged.ReturnFromEvent w g u =
+    status-going (w .state) (w .state .system .«saved_status») g (bounded (w .state .system) (g .0) .saved)
+controlled-good (privileged.GetInterrupt d) w g u = taken-going (lowestWaiting (w .state .waiting)) d (w .state) g
+controlled-good (privileged.ReadSystem d r) w g u = g
+controlled-good (privileged.WriteSystem r a) w g u = (system-set-sound r (registerAt a (w .state .registers)) (w .state .system) (g .0), g .1, g .2)
+controlled-good (privileged.WriteEntry t f b a) w g u =
+    (g .0, entry-sound t f (registerAt a (w .state .registers)) (registerAt b (w .state .registers)) (w .state .tables) (g .1), g .2)
+controlled-good (privileged.Flush a) w g u = (g .0, tables-flushed-sound (registerAt a (w .state .registers)) (w .state .tables) (g .1), g .2)
+controlled-good privileged.Halt w g u =
+    made-sound (controlled privileged.Halt (w .state)) (g .0) (g .1) (odd (w .state .system .status) u)
 
 -- the instructions
-abbrev SoundAfter : Outcome StepAnswer → Type 0
-SoundAfter o = sound (o .after .state) ≡ true
+entering-good : (e : Event) (detail : ℕ) (w : World) → Going (w .state) → GoodAfter (entering e detail w)
+entering-good e detail w g = entered-going e detail (w .state) g
 
-entering-sound : (e : Event) (detail : ℕ) (w : World) → Going (w .state) → SoundAfter (entering e detail w)
-entering-sound e detail w g = going-sound (entered e detail (w .state)) (entered-going e detail (w .state) g)
+jumped-going : (b : Bool) (to : ℕ) (s : State) → Going s → Going (jumpedIf b to s)
+jumped-going true to s g = g
+jumped-going false to s g = g
 
--- what is done to a state
-abbrev after : Instruction → World → Outcome StepAnswer
-after i w = concluded (executed i w .answer) (executed i w .after)
+loaded-good : (r : Result ℕ Event) (d : Register) (width : Width) (address : ℕ) (w : World) → Going (w .state) → GoodAfter (resolved (loadedBy r d width address w))
+loaded-good (Ok v) d width address w g = g
+loaded-good (Err e) d width address w g = entering-good e address w g
 
-jumped-sound : (b : Bool) (to : ℕ) (s : State) → Going s → sound (jumpedIf b to s) ≡ true
-jumped-sound true to s g = going-sound s g
-jumped-sound false to s g = going-sound s g
+stored-good : (r : Result (Unit {0}) Event) (address : ℕ) (w : World) → Going (w .state) → GoodAfter (concluded (storeAnsweredBy r address) w)
+stored-good (Ok u) address w g = g
+stored-good (Err e) address w g = entering-good e address w g
 
-loaded-sound : (r : Result ℕ Event) (d : Register) (width : Width) (address : ℕ) (w : World) → Going (w .state)
-    → SoundAfter (concluded (loadedBy r d width address w .answer) (loadedBy r d width address w .after))
-loaded-sound (Ok v) d width address w g = going-sound (w .state) g
-loaded-sound (Err e) d width address w g = entering-sound e address w g
+privileged-good : (b : Bool) (p : Privileged) (w : World) → Going (w .state) → isUser (w .state .system .status) ≡ b → GoodAfter (resolved (privilegedBy b p w))
+privileged-good true p w g u = entering-good event.Privileged 0 w g
+privileged-good false p w g u = controlled-good p w g u
 
-stored-sound : (r : Result (Unit {0}) Event) (address : ℕ) (w : World) → Going (w .state) → SoundAfter (concluded (storeAnsweredBy r address) w)
-stored-sound (Ok u) address w g = going-sound (w .state) g
-stored-sound (Err e) address w g = entering-sound e address w g
+load-good : (d : Register) (width : Width) (address : ℕ) (w : World) → Going (w .state) → GoodAfter (resolved (loadedInto d width address w))
+load-good d width address w g =
+    loaded-good (loaded (isUser (w .state .system .status)) (w .state .tables .«data» .entries) (w .marks) (w .bytes) width address) d width address w g
 
-progressed-sound : (p : Progress) (w : World) → sound (w .state) ≡ true → SoundAfter (concluded (Ok p) w)
-progressed-sound Ran w h = h
-progressed-sound Halted w h = h
+store-good : (b : Register) (width : Width) (address : ℕ) (w : World) → Going (w .state) → GoodAfter (resolved (storedFrom b width address w))
+store-good b width address w g =
+    stored-good (storeAnswer (isUser (w .state .system .status)) (w .state .tables .«data» .entries) (w .marks) width address) address (storedFrom b width address w .after) g
 
-privileged-sound : (b : Bool) (p : Privileged) (w : World) → Going (w .state) → isUser (w .state .system .status) ≡ b
-    → SoundAfter (concluded (privilegedBy b p w .answer) (privilegedBy b p w .after))
-privileged-sound true p w g u = entering-sound event.Privileged 0 w g
-privileged-sound false p w g u = progressed-sound (progressOf p) (withState (controlled p (w .state)) w) (controlled-sound p (w .state) g u)
+executed-good : (i : Instruction) (w : World) → Going (w .state) → GoodAfter (resolved (executed i w))
+executed-good (instruction.Operate o d a b) w g = g
+executed-good (instruction.Complement d a) w g = g
+executed-good (instruction.AddImmediate d a n) w g = g
+executed-good (instruction.JumpIfZero b a) w g = jumped-going (eqb (registerAt b (w .state .registers)) 0) (registerAt a (w .state .registers)) (w .state) g
+executed-good (instruction.JumpIfNotZero b a) w g =
+    jumped-going (not (eqb (registerAt b (w .state .registers)) 0)) (registerAt a (w .state .registers)) (w .state) g
+executed-good (instruction.Jump a) w g = g
+executed-good (instruction.JumpAndLink b a) w g = g
+executed-good (instruction.CallSystem a) w g = entering-good event.SystemCall (registerAt a (w .state .registers)) w g
+executed-good (instruction.LoadWord d a n) w g = load-good d Word (wordsAdded (registerAt a (w .state .registers)) n) w g
+executed-good (instruction.LoadByte d a n) w g = load-good d Byte (signedAdded (registerAt a (w .state .registers)) n) w g
+executed-good (instruction.StoreWord b a n) w g = store-good b Word (wordsAdded (registerAt a (w .state .registers)) n) w g
+executed-good (instruction.StoreByte b a n) w g = store-good b Byte (signedAdded (registerAt a (w .state .registers)) n) w g
+executed-good (instruction.MoveImmediate d n) w g = g
+executed-good (instruction.MoveHigh d n) w g = g
+executed-good (instruction.BranchIfZero b n) w g = jumped-going (eqb (registerAt b (w .state .registers)) 0) (wordsAdded (w .state .pc) n) (w .state) g
+executed-good (instruction.BranchIfNotZero b n) w g =
+    jumped-going (not (eqb (registerAt b (w .state .registers)) 0)) (wordsAdded (w .state .pc) n) (w .state) g
+executed-good (instruction.Input d port) w g = g
+executed-good (instruction.Output b port) w g = g
+executed-good (instruction.Privileged p) w g = privileged-good (isUser (w .state .system .status)) p w g refl
 
-load-sound : (d : Register) (width : Width) (address : ℕ) (w : World) → Going (w .state)
-    → SoundAfter (concluded (loadedInto d width address w .answer) (loadedInto d width address w .after))
-load-sound d width address w g =
-    loaded-sound (loaded (isUser (w .state .system .status)) (w .state .tables .«data» .entries) (w .marks) (w .bytes) width address) d width address w g
+performed-good : (o : Option Instruction) (w : World) → Going (w .state) → GoodAfter (performed o w)
+performed-good None w g = entering-good event.IllegalInstruction 0 w g
+performed-good (Some i) w g = executed-good i w g
 
-store-sound : (b : Register) (width : Width) (address : ℕ) (w : World) → Going (w .state)
-    → SoundAfter (concluded (storedFrom b width address w .answer) (storedFrom b width address w .after))
-store-sound b width address w g =
-    stored-sound (storeAnswer (isUser (w .state .system .status)) (w .state .tables .«data» .entries) (w .marks) width address) address (storedFrom b width address w .after) g
+fetched-good : (r : Result ℕ Event) (address : ℕ) (w : World) → Going (w .state) → GoodAfter (fetchedBy r address w)
+fetched-good (Ok word) address w g = performed-good (decodeOf word) w g
+fetched-good (Err e) address w g = entering-good e address w g
 
-executed-sound : (i : Instruction) (w : World) → Going (w .state) → SoundAfter (after i w)
-executed-sound (instruction.Operate o d a b) w g = going-sound (w .state) g
-executed-sound (instruction.Complement d a) w g = going-sound (w .state) g
-executed-sound (instruction.AddImmediate d a n) w g = going-sound (w .state) g
-executed-sound (instruction.JumpIfZero b a) w g = jumped-sound (eqb (registerAt b (w .state .registers)) 0) (registerAt a (w .state .registers)) (w .state) g
-executed-sound (instruction.JumpIfNotZero b a) w g = jumped-sound (not (eqb (registerAt b (w .state .registers)) 0)) (registerAt a (w .state .registers)) (w .state) g
-executed-sound (instruction.Jump a) w g = going-sound (w .state) g
-executed-sound (instruction.JumpAndLink b a) w g = going-sound (w .state) g
-executed-sound (instruction.CallSystem a) w g = entering-sound event.SystemCall (registerAt a (w .state .registers)) w g
-executed-sound (instruction.LoadWord d a n) w g = load-sound d Word (wordsAdded (registerAt a (w .state .registers)) n) w g
-executed-sound (instruction.LoadByte d a n) w g = load-sound d Byte (signedAdded (registerAt a (w .state .registers)) n) w g
-executed-sound (instruction.StoreWord b a n) w g = store-sound b Word (wordsAdded (registerAt a (w .state .registers)) n) w g
-executed-sound (instruction.StoreByte b a n) w g = store-sound b Byte (signedAdded (registerAt a (w .state .registers)) n) w g
-executed-sound (instruction.MoveImmediate d n) w g = going-sound (w .state) g
-executed-sound (instruction.MoveHigh d n) w g = going-sound (w .state) g
-executed-sound (instruction.BranchIfZero b n) w g = jumped-sound (eqb (registerAt b (w .state .registers)) 0) (wordsAdded (w .state .pc) n) (w .state) g
-executed-sound (instruction.BranchIfNotZero b n) w g = jumped-sound (not (eqb (registerAt b (w .state .registers)) 0)) (wordsAdded (w .state .pc) n) (w .state) g
-executed-sound (instruction.Input d port) w g = going-sound (w .state) g
-executed-sound (instruction.Output b port) w g = going-sound (w .state) g
-executed-sound (instruction.Privileged p) w g = privileged-sound (isUser (w .state .system .status)) p w g refl
+cond-good : (b : Bool) (x y : Outcome StepAnswer) → GoodAfter x → GoodAfter y → GoodAfter (cond b x y)
+cond-good true x y p q = p
+cond-good false x y p q = q
 
-performed-sound : (o : Option Instruction) (w : World) → Going (w .state) → SoundAfter (performed o w)
-performed-sound None w g = entering-sound event.IllegalInstruction 0 w g
-performed-sound (Some i) w g = executed-sound i w g
+pub step-good : (w : World) → Going (w .state) → Good (stepOf w .answer) (stepOf w .after .state)
+step-good w g =
+    cond-good (isInterrupted (w .state)) _ _ (entering-good event.Interrupt 0 w g)
+    (fetched-good (fetched (isUser (w .state .system .status)) (w .state .tables .instruction .entries) (w .marks) (w .bytes) (w .state .pc)) (w .state .pc) (advanced w) g)
 
-fetched-sound : (r : Result ℕ Event) (address : ℕ) (w : World) → Going (w .state) → SoundAfter (fetchedBy r address w)
-fetched-sound (Ok word) address w g = performed-sound (decodeOf word) w g
-fetched-sound (Err e) address w g = entering-sound e address w g
-
-cond-sound : (b : Bool) (x y : Outcome StepAnswer) → SoundAfter x → SoundAfter y → SoundAfter (cond b x y)
-cond-sound true x y p q = p
-cond-sound false x y p q = q
-
-moved-going : (s : State) (v : ℕ) → Going s → Going (withPc v s)
-moved-going s v g = record { system = g .system; tables = g .tables; running = g .running }
-
--- a step of a sound machine that is not halted leaves it sound
-pub step-sound : (w : World) → sound (w .state) ≡ true → w .state .halted ≡ false → sound (stepOf w .after .state) ≡ true
-step-sound w h r =
-    let g = sound-going (w .state) h r in
-    cond-sound (isInterrupted (w .state)) _ _ (entering-sound event.Interrupt 0 w g)
-    (fetched-sound (fetched (isUser (w .state .system .status)) (w .state .tables .instruction .entries) (w .marks) (w .bytes) (w .state .pc)) (w .state .pc) (advanced w)
-    (moved-going (w .state) (advanced w .state .pc) g))
-
--- and so is what is known to be left by one
-pub stepped-sound : (w w′ : World) (r : StepAnswer) → outcome w′ r ≡ stepOf w → sound (w .state) ≡ true → w .state .halted ≡ false → sound (w′ .state) ≡ true
-stepped-sound w w′ r e h running =
-    subst (λ (s : State). sound s ≡ true) (sym (ap (λ (o : Outcome StepAnswer). o .after .state) e)) (step-sound w h running)
+-- and so is what is known to be left by a step
+pub stepped-good : (w w′ : World) (r : StepAnswer) → outcome w′ r ≡ stepOf w → Going (w .state) → Good r (w′ .state)
+stepped-good w w′ r e g = subst (λ (o : Outcome StepAnswer). Good (o .answer) (o .after .state)) (sym e) (step-good w g)

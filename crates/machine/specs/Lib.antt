@@ -10,3 +10,4 @@ pub mod Worlds
 pub mod Control
 pub mod Execution
 pub mod Steps
+pub mod Runs

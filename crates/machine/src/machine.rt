@@ -3,6 +3,7 @@
 mod lines;
 mod ports;
 mod readings;
+mod running;
 mod starting;
 mod stepping;
 
