@@ -36,6 +36,16 @@ pub data Said : Type 0 where
   splitMemoryOver : List ℕ → ℕ → Said
   load : List ℕ → Said
   bytes : ℕ → ℕ → Said
+  reset : Said
+  step : Said
+  run : ℕ → Said
+  raise : ℕ → Said
+  drive : ℕ → ℕ → Said
+  register : ℕ → Said
+  systemRegister : ℕ → Said
+  pc : Said
+  output : ℕ → Said
+  state : Said
 
 abbrev pub said : Command → Said
 said command.Nothing = nothing
@@ -48,6 +58,16 @@ said (command.SplitMemory r w) = splitMemory r w
 said (command.SplitMemoryOver f w) = splitMemoryOver (now f) w
 said (command.Load f) = load (now f)
 said (command.Bytes a n) = bytes a n
+said command.Reset = reset
+said command.Step = step
+said (command.Run n) = run n
+said (command.Raise l) = raise l
+said (command.Drive p w) = drive p w
+said (command.Register n) = register n
+said (command.SystemRegister n) = systemRegister n
+said command.Pc = pc
+said (command.Output p) = output p
+said command.State = state
 
 abbrev pub saidSome : Option Command → Option Said
 saidSome (Some c) = Some (said c)
@@ -65,6 +85,16 @@ commandRows =
     ∷ row "memory" verb.Memory
     ∷ row "load" verb.Load
     ∷ row "bytes" verb.Bytes
+    ∷ row "reset" verb.Reset
+    ∷ row "step" verb.Step
+    ∷ row "run" verb.Run
+    ∷ row "raise" verb.Raise
+    ∷ row "drive" verb.Drive
+    ∷ row "reg" verb.Reg
+    ∷ row "sys" verb.Sys
+    ∷ row "pc" verb.Pc
+    ∷ row "out" verb.Out
+    ∷ row "state" verb.State
     ∷ []
 
 abbrev pub rowNamed : Option Name → Option CommandRow
@@ -96,6 +126,11 @@ abbrev pub memoryAfter : Option (List ℕ) → Option Said
 memoryAfter (Some line) = memoryOf line
 memoryAfter None = None
 
+-- a command that takes nothing
+abbrev pub aloneSaid : Option (List ℕ) → Said → Option Said
+aloneSaid (Some rest) s = None
+aloneSaid None s = Some s
+
 -- the command with what stands behind its name
 abbrev pub takenOf : Verb → Option (List ℕ) → Option Said
 takenOf verb.Text rest = mapped text (oneNumber rest 65535)
@@ -104,6 +139,16 @@ takenOf verb.List rest = mapped list rest
 takenOf verb.Load rest = mapped load rest
 takenOf verb.Memory rest = memoryAfter rest
 takenOf verb.Bytes rest = mapped (λ (p : Pair). bytes (p .first) (p .second)) (twoNumbers rest 4294967295 65536)
+takenOf verb.Reset rest = aloneSaid rest reset
+takenOf verb.Step rest = aloneSaid rest step
+takenOf verb.Run rest = mapped run (oneNumber rest 4294967295)
+takenOf verb.Raise rest = mapped raise (oneNumber rest 4294967295)
+takenOf verb.Drive rest = mapped (λ (p : Pair). drive (p .first) (p .second)) (twoNumbers rest 4294967295 65535)
+takenOf verb.Reg rest = mapped register (oneNumber rest 4294967295)
+takenOf verb.Sys rest = mapped systemRegister (oneNumber rest 4294967295)
+takenOf verb.Pc rest = aloneSaid rest pc
+takenOf verb.Out rest = mapped output (oneNumber rest 4294967295)
+takenOf verb.State rest = aloneSaid rest state
 
 abbrev pub orUnknown : Option Said → Said
 orUnknown (Some s) = s

@@ -2,7 +2,7 @@
 ghost use mathlib.Core.Path.{_≡_};
 ghost use Rattle.monitor.specs.Words.{lent};
 ghost use Rattle.monitor.specs.Numbers.{Within};
-ghost use Rattle.monitor.specs.Arguments.{aloneOf, oneNumber, twoNumbers, pairOf};
+ghost use Rattle.monitor.specs.Arguments.{BothWithin, oneNumber, twoNumbers};
 use crate::numbers::parse_number;
 use crate::words::split_word;
 
@@ -11,16 +11,6 @@ use crate::words::split_word;
 pub struct Pair {
     pub first: u32,
     pub second: u32,
-}
-
-/// Nothing more stands there.
-pub fn nothing(rest: Option<&[u8]>) -> Option<()>
-    ensures { λ r. ⌜ r ≡ aloneOf (lent (rest .entry)) ⌝ }
-{
-    match rest {
-        Some(_) => None,
-        None => Some(()),
-    }
 }
 
 /// One number of at most `most`.
@@ -34,12 +24,13 @@ pub fn one_number(rest: Option<&[u8]>, most: u32) -> Option<u32>
     }
 }
 
-/// Two numbers, of at most `most_first` and `most_second`.
-pub fn two_numbers(rest: Option<&[u8]>, most_first: u32, most_second: u32) -> Option<Pair>
-    ensures { λ r. ⌜ r ≡ twoNumbers (lent (rest .entry)) «most_first» «most_second» ⌝ }
+/// Two numbers, of at most `first_most` and `second_most`.
+pub fn two_numbers(rest: Option<&[u8]>, first_most: u32, second_most: u32) -> Option<Pair>
+    ensures value { λ r. ⌜ r ≡ twoNumbers (lent (rest .entry)) «first_most» «second_most» ⌝ }
+    ensures bound { λ r. ⌜ BothWithin «first_most» «second_most» r ⌝ }
 {
     let words = split_word(rest?);
-    let first = parse_number(words.word, most_first)?;
-    let second = one_number(words.rest, most_second)?;
+    let first = parse_number(words.word, first_most)?;
+    let second = one_number(words.rest, second_most)?;
     Some(Pair { first, second })
 }

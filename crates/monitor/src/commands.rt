@@ -3,7 +3,7 @@ ghost use mathlib.Core.Path.{_≡_};
 ghost use Rattle.std.specs.shelf.Text.{sameBytes};
 ghost use Rattle.names.specs.Names.{nameOf};
 ghost use Rattle.monitor.specs.Words.{lent};
-ghost use Rattle.monitor.specs.Commands.{commandRows, rowNamed, verbOf, memoryOf, areaOf, said, saidSome, takenOf, orUnknown, passedOver, commandOf};
+ghost use Rattle.monitor.specs.Commands.{commandRows, rowNamed, verbOf, memoryOf, areaOf, said, saidSome, aloneSaid, takenOf, orUnknown, passedOver, commandOf};
 use crate::arguments::one_number;
 use crate::arguments::two_numbers;
 use crate::numbers::parse_number;
@@ -27,6 +27,16 @@ pub enum Verb {
     Memory,
     Load,
     Bytes,
+    Reset,
+    Step,
+    Run,
+    Raise,
+    Drive,
+    Reg,
+    Sys,
+    Pc,
+    Out,
+    State,
 }
 
 /// A row of the table of commands.
@@ -46,7 +56,7 @@ pub impl Entry for CommandRow as CommandRowEntry {
     }
 }
 
-const COMMANDS: [CommandRow; 6] = [
+const COMMANDS: [CommandRow; 16] = [
     CommandRow {
         name: Name {
             letters: *b"text    ",
@@ -83,6 +93,66 @@ const COMMANDS: [CommandRow; 6] = [
         },
         verb: Verb::Bytes,
     },
+    CommandRow {
+        name: Name {
+            letters: *b"reset   ",
+        },
+        verb: Verb::Reset,
+    },
+    CommandRow {
+        name: Name {
+            letters: *b"step    ",
+        },
+        verb: Verb::Step,
+    },
+    CommandRow {
+        name: Name {
+            letters: *b"run     ",
+        },
+        verb: Verb::Run,
+    },
+    CommandRow {
+        name: Name {
+            letters: *b"raise   ",
+        },
+        verb: Verb::Raise,
+    },
+    CommandRow {
+        name: Name {
+            letters: *b"drive   ",
+        },
+        verb: Verb::Drive,
+    },
+    CommandRow {
+        name: Name {
+            letters: *b"reg     ",
+        },
+        verb: Verb::Reg,
+    },
+    CommandRow {
+        name: Name {
+            letters: *b"sys     ",
+        },
+        verb: Verb::Sys,
+    },
+    CommandRow {
+        name: Name {
+            letters: *b"pc      ",
+        },
+        verb: Verb::Pc,
+    },
+    CommandRow {
+        name: Name {
+            letters: *b"out     ",
+        },
+        verb: Verb::Out,
+    },
+    CommandRow {
+        name: Name {
+            letters: *b"state   ",
+        },
+        verb: Verb::State,
+    },
 ];
 
 /// What a line asks for. File names and texts are parts of the line itself.
@@ -99,6 +169,16 @@ pub enum Command<'a> {
     SplitMemoryOver { file: &'a [u8], plain: u32 },
     Load { file: &'a [u8] },
     Bytes { address: u32, count: u32 },
+    Reset,
+    Step,
+    Run { steps: u32 },
+    Raise { line: u32 },
+    Drive { port: u32, word: u16 },
+    Register { number: u32 },
+    SystemRegister { number: u32 },
+    Pc,
+    Output { port: u32 },
+    State,
 }
 
 /// The command that a line is.
@@ -178,6 +258,42 @@ fn taken<'a>(verb: Verb, rest: Option<&'a [u8]>) -> Option<Command<'a>>
                 count: pair.second,
             })
         }
+        Verb::Run => Some(Command::Run {
+            steps: one_number(rest, u32::MAX)?,
+        }),
+        Verb::Raise => Some(Command::Raise {
+            line: one_number(rest, u32::MAX)?,
+        }),
+        Verb::Drive => {
+            let pair = two_numbers(rest, u32::MAX, MOST_WORD)?;
+            Some(Command::Drive {
+                port: pair.first,
+                word: pair.second as u16,
+            })
+        }
+        Verb::Reg => Some(Command::Register {
+            number: one_number(rest, u32::MAX)?,
+        }),
+        Verb::Sys => Some(Command::SystemRegister {
+            number: one_number(rest, u32::MAX)?,
+        }),
+        Verb::Out => Some(Command::Output {
+            port: one_number(rest, u32::MAX)?,
+        }),
+        Verb::Reset => alone(rest, Command::Reset),
+        Verb::Step => alone(rest, Command::Step),
+        Verb::Pc => alone(rest, Command::Pc),
+        Verb::State => alone(rest, Command::State),
+    }
+}
+
+/// A command that takes nothing.
+fn alone<'a>(rest: Option<&'a [u8]>, command: Command<'a>) -> Option<Command<'a>>
+    ensures { λ r. ⌜ saidSome r ≡ aloneSaid (lent (rest .entry)) (said (command .entry)) ⌝ }
+{
+    match rest {
+        Some(_) => None,
+        None => Some(command),
     }
 }
 

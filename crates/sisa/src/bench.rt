@@ -1,9 +1,13 @@
-//! What the monitor works on: a memory that it owns.
-use loading::fault::Misplaced;
-use loading::load::load;
-use loading::load::Loaded;
-use loading::load::LoadRefusal;
+//! What the monitor works on: a machine and a memory that it owns.
 use loading::fault::LoadFault;
+use loading::fault::Misplaced;
+use loading::load::LoadRefusal;
+use loading::load::Loaded;
+use loading::load::load;
+use machine::answer::Refusal;
+use machine::answer::RunAnswer;
+use machine::answer::StepAnswer;
+use machine::machine::Machine;
 use memory::Memory;
 use memory::MemoryFault;
 use memory::flat::FlatMemory;
@@ -23,17 +27,21 @@ pub enum Store {
     Split { fixed: Vec<u8>, plain: Vec<u8> },
 }
 
-/// A memory.
+/// A machine over a memory.
 #[derive(Drop)]
 pub struct Bench {
+    pub machine: Machine,
     store: Store,
 }
 
 impl Bench {
-    /// A flat memory of 65,536 bytes.
+    /// A machine at its start over a flat memory of 65,536 bytes.
     pub fn new(heap: Global) -> Result<Bench, AnyError> {
         let bytes = vec![in heap; 0; WHOLE_MEMORY]?;
-        Ok(Bench { store: Store::Flat { bytes } })
+        Ok(Bench {
+            machine: Machine::start(),
+            store: Store::Flat { bytes },
+        })
     }
 
     /// A flat memory of `size` zero bytes.
@@ -53,7 +61,12 @@ impl Bench {
     }
 
     /// A split memory over a read-only area and `plain` zero bytes.
-    pub fn split_over(&mut self, rt: &LibcRuntime, fixed: Vec<u8>, plain: u32) -> Result<(), AnyError> {
+    pub fn split_over(
+        &mut self,
+        rt: &LibcRuntime,
+        fixed: Vec<u8>,
+        plain: u32,
+    ) -> Result<(), AnyError> {
         match vec![in rt.alloc(); 0; plain as usize] {
             Ok(plain) => self.start_over(rt, Store::Split { fixed, plain }),
             Err(_) => no_memory(rt),
@@ -62,8 +75,34 @@ impl Bench {
 
     fn start_over(&mut self, rt: &LibcRuntime, store: Store) -> Result<(), AnyError> {
         self.store = store;
+        self.machine.reset();
         println!(rt, "done")?;
         Ok(())
+    }
+
+    /// Makes one step.
+    pub fn step(&mut self) -> Result<StepAnswer, Refusal> {
+        match &mut self.store {
+            Store::Flat { bytes } => self.machine
+                .step(&mut FlatMemory::over(bytes.as_mut_slice())),
+            Store::Split { fixed, plain } => {
+                self.machine.step(&mut SplitMemory::over(fixed.as_slice(), plain.as_mut_slice()))
+            }
+        }
+    }
+
+    /// Makes up to `steps` steps.
+    pub fn run(&mut self, steps: u32) -> Result<RunAnswer, Refusal> {
+        match &mut self.store {
+            Store::Flat { bytes } => self.machine
+                .run(&mut FlatMemory::over(bytes.as_mut_slice()), steps),
+            Store::Split { fixed, plain } => {
+                self.machine.run(
+                    &mut SplitMemory::over(fixed.as_slice(), plain.as_mut_slice()),
+                    steps,
+                )
+            }
+        }
     }
 
     /// Loads a file, and prints what came of it.
@@ -81,11 +120,26 @@ impl Bench {
     }
 
     /// Prints bytes from a physical address on.
-    pub fn print_bytes(&mut self, rt: &LibcRuntime, address: u32, count: u32) -> Result<(), AnyError> {
+    pub fn print_bytes(
+        &mut self,
+        rt: &LibcRuntime,
+        address: u32,
+        count: u32,
+    ) -> Result<(), AnyError> {
         match &mut self.store {
-            Store::Flat { bytes } => show_bytes(rt, &FlatMemory::over(bytes.as_mut_slice()), address, count),
+            Store::Flat { bytes } => show_bytes(
+                rt,
+                &FlatMemory::over(bytes.as_mut_slice()),
+                address,
+                count,
+            ),
             Store::Split { fixed, plain } => {
-                show_bytes(rt, &SplitMemory::over(fixed.as_slice(), plain.as_mut_slice()), address, count)
+                show_bytes(
+                    rt,
+                    &SplitMemory::over(fixed.as_slice(), plain.as_mut_slice()),
+                    address,
+                    count,
+                )
             }
         }
     }
@@ -99,14 +153,26 @@ fn no_memory(rt: &LibcRuntime) -> Result<(), AnyError> {
 fn print_load(rt: &LibcRuntime, answer: Result<Loaded, LoadRefusal>) -> Result<(), AnyError> {
     match answer {
         Ok(Loaded { blocks, sum }) => println!(rt, "loaded {blocks} {sum}")?,
-        Err(LoadRefusal { fault, offset, blocks }) => {
+        Err(
+            LoadRefusal {
+                fault,
+                offset,
+                blocks,
+            },
+        ) => {
             let number = fault.number();
             print!(rt, "refused {number} offset {offset} blocks {blocks}")?;
             if let LoadFault::Place(place) = fault {
                 let address = place.address;
                 match place.fault {
-                    Misplaced::Memory(MemoryFault::Fixed) => print!(rt, " fault fixed address {address}")?,
-                    Misplaced::Memory(MemoryFault::Absent) => print!(rt, " fault absent address {address}")?,
+                    Misplaced::Memory(MemoryFault::Fixed) => print!(
+                        rt,
+                        " fault fixed address {address}"
+                    )?,
+                    Misplaced::Memory(MemoryFault::Absent) => print!(
+                        rt,
+                        " fault absent address {address}"
+                    )?,
                     Misplaced::Past => print!(rt, " fault past address {address}")?,
                 }
             }
@@ -116,7 +182,12 @@ fn print_load(rt: &LibcRuntime, answer: Result<Loaded, LoadRefusal>) -> Result<(
     Ok(())
 }
 
-fn show_bytes<Mem: Memory>(rt: &LibcRuntime, memory: &Mem, address: u32, count: u32) -> Result<(), AnyError> {
+fn show_bytes<Mem: Memory>(
+    rt: &LibcRuntime,
+    memory: &Mem,
+    address: u32,
+    count: u32,
+) -> Result<(), AnyError> {
     for i in 0..count {
         if i > 0 {
             print!(rt, " ")?;

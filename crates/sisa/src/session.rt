@@ -1,6 +1,11 @@
 //! One session: each line of the input is a command, and is answered before the next is read.
 use crate::bench::Bench;
 use crate::listing::list;
+use crate::readings::print_done;
+use crate::readings::print_run;
+use crate::readings::print_state;
+use crate::readings::print_step;
+use crate::readings::print_word;
 use monitor::commands::Command;
 use monitor::commands::parse_command;
 use std::error::AnyError;
@@ -12,7 +17,11 @@ use text::read_text;
 use text::write_text;
 
 /// Answers every line of the input.
-pub fn session<R: BufRead + Drop>(rt: &LibcRuntime, bench: &mut Bench, mut input: R) -> Result<(), AnyError> {
+pub fn session<R: BufRead + Drop>(
+    rt: &LibcRuntime,
+    bench: &mut Bench,
+    mut input: R,
+) -> Result<(), AnyError> {
     let mut line = Vec::new(rt.alloc());
     for _ in 0..u64::MAX {
         line.clear();
@@ -52,6 +61,35 @@ fn answer(rt: &LibcRuntime, bench: &mut Bench, command: Command<'_>) -> Result<(
             None => {}
         },
         Command::Bytes { address, count } => bench.print_bytes(rt, address, count)?,
+        _ => answer_machine(rt, bench, command)?,
+    }
+    Ok(())
+}
+
+/// Answers one command to the machine.
+fn answer_machine(
+    rt: &LibcRuntime,
+    bench: &mut Bench,
+    command: Command<'_>,
+) -> Result<(), AnyError> {
+    match command {
+        Command::Reset => {
+            bench.machine.reset();
+            println!(rt, "done")?;
+        }
+        Command::Step => print_step(rt, bench.step())?,
+        Command::Run { steps } => print_run(rt, bench.run(steps))?,
+        Command::Raise { line } => print_done(rt, bench.machine.raise(line))?,
+        Command::Drive { port, word } => print_done(rt, bench.machine.drive(port, word))?,
+        Command::Register { number } => print_word(rt, bench.machine.register(number))?,
+        Command::SystemRegister { number } => print_word(
+            rt,
+            bench.machine.system_register(number),
+        )?,
+        Command::Pc => print_word(rt, Ok(bench.machine.pc()))?,
+        Command::Output { port } => print_word(rt, bench.machine.output(port))?,
+        Command::State => print_state(rt, &bench.machine)?,
+        _ => {}
     }
     Ok(())
 }

@@ -13,38 +13,134 @@ struct Sample {
 }
 
 const SAMPLES: [Sample; 32] = [
-    Sample { word: 0x02A3, text: b"ADD R1, R2, R3" },
-    Sample { word: 0x0298, text: b"NOT R1, R2" },
-    Sample { word: 0x0473, text: b"SHA R2, R1, R3" },
-    Sample { word: 0x047B, text: b"SHL R2, R1, R3" },
-    Sample { word: 0x12A3, text: b"CMPLTU R1, R2, R3" },
-    Sample { word: 0x221F, text: b"ADDI R1, R0, -1" },
-    Sample { word: 0x22A0, text: b"JZ R1, R2" },
-    Sample { word: 0x22A1, text: b"JNZ R1, R2" },
-    Sample { word: 0x20A3, text: b"JMP R2" },
-    Sample { word: 0x22A4, text: b"JAL R1, R2" },
-    Sample { word: 0x20E7, text: b"CALLS R3" },
-    Sample { word: 0x32A0, text: b"LD R1, -32(R2)" },
-    Sample { word: 0xD29F, text: b"LDB R1, 31(R2)" },
-    Sample { word: 0x42A0, text: b"ST -32(R2), R1" },
-    Sample { word: 0xE281, text: b"STB 1(R2), R1" },
-    Sample { word: 0x5280, text: b"MOVI R1, -128" },
-    Sample { word: 0x53FF, text: b"MOVIH R1, 255" },
-    Sample { word: 0x6280, text: b"BZ R1, -128" },
-    Sample { word: 0x637F, text: b"BNZ R1, 127" },
-    Sample { word: 0x7212, text: b"IN R1, 18" },
-    Sample { word: 0x7312, text: b"OUT 18, R1" },
-    Sample { word: 0x8293, text: b"MULHU R1, R2, R3" },
-    Sample { word: 0xF020, text: b"EI" },
-    Sample { word: 0xF021, text: b"DI" },
-    Sample { word: 0xF024, text: b"RETI" },
-    Sample { word: 0xF228, text: b"GETIID R1" },
-    Sample { word: 0xF2AC, text: b"RDS R1, S2" },
-    Sample { word: 0xF2B0, text: b"WRS S1, R2" },
-    Sample { word: 0xF2B4, text: b"WRPI R1, R2" },
-    Sample { word: 0xF0B8, text: b"FLUSH R2" },
-    Sample { word: 0xFFFF, text: b"HALT" },
-    Sample { word: 0x0299, text: b".word 0299" },
+    Sample {
+        word: 0x02A3,
+        text: b"ADD R1, R2, R3",
+    },
+    Sample {
+        word: 0x0298,
+        text: b"NOT R1, R2",
+    },
+    Sample {
+        word: 0x0473,
+        text: b"SHA R2, R1, R3",
+    },
+    Sample {
+        word: 0x047B,
+        text: b"SHL R2, R1, R3",
+    },
+    Sample {
+        word: 0x12A3,
+        text: b"CMPLTU R1, R2, R3",
+    },
+    Sample {
+        word: 0x221F,
+        text: b"ADDI R1, R0, -1",
+    },
+    Sample {
+        word: 0x22A0,
+        text: b"JZ R1, R2",
+    },
+    Sample {
+        word: 0x22A1,
+        text: b"JNZ R1, R2",
+    },
+    Sample {
+        word: 0x20A3,
+        text: b"JMP R2",
+    },
+    Sample {
+        word: 0x22A4,
+        text: b"JAL R1, R2",
+    },
+    Sample {
+        word: 0x20E7,
+        text: b"CALLS R3",
+    },
+    Sample {
+        word: 0x32A0,
+        text: b"LD R1, -32(R2)",
+    },
+    Sample {
+        word: 0xD29F,
+        text: b"LDB R1, 31(R2)",
+    },
+    Sample {
+        word: 0x42A0,
+        text: b"ST -32(R2), R1",
+    },
+    Sample {
+        word: 0xE281,
+        text: b"STB 1(R2), R1",
+    },
+    Sample {
+        word: 0x5280,
+        text: b"MOVI R1, -128",
+    },
+    Sample {
+        word: 0x53FF,
+        text: b"MOVIH R1, 255",
+    },
+    Sample {
+        word: 0x6280,
+        text: b"BZ R1, -128",
+    },
+    Sample {
+        word: 0x637F,
+        text: b"BNZ R1, 127",
+    },
+    Sample {
+        word: 0x7212,
+        text: b"IN R1, 18",
+    },
+    Sample {
+        word: 0x7312,
+        text: b"OUT 18, R1",
+    },
+    Sample {
+        word: 0x8293,
+        text: b"MULHU R1, R2, R3",
+    },
+    Sample {
+        word: 0xF020,
+        text: b"EI",
+    },
+    Sample {
+        word: 0xF021,
+        text: b"DI",
+    },
+    Sample {
+        word: 0xF024,
+        text: b"RETI",
+    },
+    Sample {
+        word: 0xF228,
+        text: b"GETIID R1",
+    },
+    Sample {
+        word: 0xF2AC,
+        text: b"RDS R1, S2",
+    },
+    Sample {
+        word: 0xF2B0,
+        text: b"WRS S1, R2",
+    },
+    Sample {
+        word: 0xF2B4,
+        text: b"WRPI R1, R2",
+    },
+    Sample {
+        word: 0xF0B8,
+        text: b"FLUSH R2",
+    },
+    Sample {
+        word: 0xFFFF,
+        text: b"HALT",
+    },
+    Sample {
+        word: 0x0299,
+        text: b".word 0299",
+    },
 ];
 
 /// Texts that no word has.
