@@ -11,14 +11,14 @@ ghost use Rattle.memory.specs.Split.{splitMarks, splitBytes, splitRest};
 /// come first and are fixed; those of the second follow at once and are plain; the rest are
 /// absent, and no frame passes the last.
 #[derive(Drop)]
-pub struct SplitMemory<'a> {
-    fixed: &'a [u8],
-    plain: &'a mut [u8],
+pub struct SplitMemory<'f, 'p> {
+    fixed: &'f [u8],
+    plain: &'p mut [u8],
 }
 
-impl<'a> SplitMemory<'a> {
+impl<'f, 'p> SplitMemory<'f, 'p> {
     /// The memory over `fixed` and, behind its whole frames, `plain`.
-    pub fn over(fixed: &'a [u8], plain: &'a mut [u8]) -> SplitMemory<'a>
+    pub fn over(fixed: &'f [u8], plain: &'p mut [u8]) -> SplitMemory<'f, 'p>
         ensures marks { λ r. ⌜ split .marks r ≡ splitMarks (length (now (fixed .entry))) (length (now (plain .entry))) ⌝ }
         ensures bytes { λ r. ⌜ split .bytes r ≡ splitBytes (now (fixed .entry)) (now (plain .entry)) ⌝ }
         ensures rest { λ r. ⌜ split .rest r ≡ splitRest (length (now (fixed .entry))) (now (plain .entry)) (name (plain .entry)) ⌝ }

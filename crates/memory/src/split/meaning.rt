@@ -9,7 +9,7 @@ use crate::Memory;
 use crate::MemoryFault;
 use crate::split::SplitMemory;
 
-pub impl Memory for SplitMemory<'_> as SplitMeaning {
+pub impl Memory for SplitMemory<'_, '_> as SplitMeaning {
     ghost marks = { λ memory. splitMarks (length (now (memory .fixed))) (length (now (memory .plain))) };
 
     ghost bytes = { λ memory. splitBytes (now (memory .fixed)) (now (memory .plain)) };

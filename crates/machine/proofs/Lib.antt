@@ -1,0 +1,3 @@
+mod Lines
+mod Turns
+pub mod Soundness
