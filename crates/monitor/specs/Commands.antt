@@ -1,11 +1,11 @@
 -- The command that a line is.
-use mathlib.Core.Bool.{Bool, cond, _||_}
+use mathlib.Core.Bool.{Bool, true, cond, _&&_, _||_}
 use mathlib.Core.List.{List, [], _∷_}
 use Prim.Native.Nat.{ℕ}
 use Prim.Native.String.{String}
 use lib.Chars.{codes}
 use lib.Dec.{eqb}
-use lib.ListN.{length, getD}
+use lib.ListN.{getD}
 use denote.Ref.{now}
 use Rattle.std.specs.declared.option.Option.{Option}
 use Rattle.std.specs.declared.option.Option.the-variants.{Some, None}
@@ -159,8 +159,12 @@ takenBy (Some v) rest = orUnknown (takenOf v rest)
 takenBy None rest = unknown
 
 -- blank lines and comments are passed over
+abbrev pub isBlank : List ℕ → Bool
+isBlank [] = true
+isBlank (c ∷ cs) = eqb c 32 && isBlank cs
+
 abbrev pub passedOver : List ℕ → Bool
-passedOver line = eqb (length line) 0 || eqb (getD line 0 0) 35
+passedOver line = isBlank line || eqb (getD line 0 0) 35
 
 abbrev pub commandIn : Parts → Said
 commandIn words = takenBy (verbOf (words .word)) (words .rest)

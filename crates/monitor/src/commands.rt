@@ -1,9 +1,12 @@
 //! The monitor's commands: one table of their names, and what each takes behind its name.
+ghost use Prim.Native.Nat.{_<_};
+ghost use mathlib.Core.Bool.{false};
 ghost use mathlib.Core.Path.{_≡_};
+ghost use lib.ListN.{length};
 ghost use Rattle.std.specs.shelf.Text.{sameBytes};
 ghost use Rattle.names.specs.Names.{nameOf};
 ghost use Rattle.monitor.specs.Words.{lent};
-ghost use Rattle.monitor.specs.Commands.{commandRows, rowNamed, verbOf, memoryOf, areaOf, said, saidSome, aloneSaid, takenOf, orUnknown, passedOver, commandOf};
+ghost use Rattle.monitor.specs.Commands.{commandRows, rowNamed, verbOf, memoryOf, areaOf, said, saidSome, aloneSaid, takenOf, orUnknown, isBlank, passedOver, commandOf};
 use crate::arguments::one_number;
 use crate::arguments::two_numbers;
 use crate::numbers::parse_number;
@@ -199,7 +202,20 @@ pub fn parse_command<'a>(line: &'a [u8]) -> Command<'a>
 fn is_passed_over(line: &[u8]) -> bool
     ensures { λ r. ⌜ r ≡ passedOver (now (line .entry)) ⌝ }
 {
-    line.len() == 0 || line[0] == b'#'
+    is_blank(line) || line[0] == b'#'
+}
+
+/// Whether a line has nothing but blanks.
+fn is_blank(line: &[u8]) -> bool
+    ensures value { λ r. ⌜ r ≡ isBlank (now (line .entry)) ⌝ }
+    ensures bound { λ r. ⌜ (r ≡ false → 0 < length (now (line .entry))) ⌝ }
+{
+    for byte in line {
+        if *byte != b' ' {
+            return false;
+        }
+    }
+    true
 }
 
 fn or_unknown<'a>(taken: Option<Command<'a>>) -> Command<'a>
