@@ -12,3 +12,4 @@ pub mod Execution
 pub mod Steps
 pub mod Runs
 pub mod Cards
+pub mod Laws
