@@ -1,3 +1,4 @@
 mod Lines
 mod Turns
 pub mod Soundness
+pub mod Leaving

@@ -11,3 +11,5 @@ pub mod Control
 pub mod Execution
 pub mod Steps
 pub mod Runs
+pub mod Cards
+pub mod Laws

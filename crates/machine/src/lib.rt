@@ -1,6 +1,7 @@
 //! The machine: its state, what a step of it does, and the calls that are made of it.
 mod access;
 pub mod answer;
+pub mod cards;
 mod entry;
 mod execution;
 pub mod machine;

@@ -87,9 +87,9 @@ impl State {
     pub(crate) fn jump_and_link(&mut self, b: Register, a: Register)
         ensures { λ _. ⌜ now (self .exit) ≡ linked b a (now (self .entry)) ⌝ }
     {
-        let to = self.register(a);
+        let target = self.register(a);
         self.set_register(b, self.pc);
-        self.pc = to;
+        self.pc = target;
     }
 
     /// IN.
