@@ -46,7 +46,7 @@ written-on : (slots : List Exchange) (made : ℕ) (e : Exchange) (o : Compared) 
 written-on slots made e o h =
     let n : o .answer .calls + 1 + made ≡ o .answer .calls + (made + 1) = omega arith in
     let l : take made slots ++ (e ∷ o .exchanges) ≡ take (made + 1) (set slots made e) ++ o .exchanges =
-        sym (append-assoc (take made slots) (e ∷ []) (o .exchanges)) ∙ ap (λ (p : List Exchange). p ++ o .exchanges) (sym (take-more-set slots made e h)) in
+    sym (append-assoc (take made slots) (e ∷ []) (o .exchanges)) ∙ ap (λ (p : List Exchange). p ++ o .exchanges) (sym (take-more-set slots made e h)) in
     ap (λ (p : List Exchange). compared (o .ours) (o .theirs) p (comparison (o .answer .calls + 1 + made) (o .answer .ours) (o .answer .theirs))) l
     ∙ ap (λ (k : ℕ). compared (o .ours) (o .theirs) (take (made + 1) (set slots made e) ++ o .exchanges) (comparison k (o .answer .ours) (o .answer .theirs))) n
 
@@ -55,23 +55,23 @@ pub turn : (cs : List Call) (slots : List Exchange) (made : ℕ) (c : Call) (a b
     → outcome a′ (e .ours) ≡ callOf (getD cs made c) a → outcome b′ (e .theirs) ≡ callOf (getD cs made c) b
     → remaining made cs slots a b
     ≡ after (made + 1) (take (made + 1) (set slots made e))
-      (cond (enters (e .ours) || enters (e .theirs))
-      (compared a′ b′ (drop (made + 1) (set slots made e)) (comparison 0 (entryOf (e .ours)) (entryOf (e .theirs))))
-      (compareOf (drop (made + 1) cs) (drop (made + 1) (set slots made e)) a′ b′))
+    (cond (enters (e .ours) || enters (e .theirs))
+    (compared a′ b′ (drop (made + 1) (set slots made e)) (comparison 0 (entryOf (e .ours)) (entryOf (e .theirs))))
+    (compareOf (drop (made + 1) cs) (drop (made + 1) (set slots made e)) a′ b′))
 turn cs slots made c a b a′ b′ e h k p q =
     let others = compareOf (drop (made + 1) cs) in
     let x = outcome a′ (e .ours) in
     let y = outcome b′ (e .theirs) in
     let left : drop (made + 1) slots ≡ drop (made + 1) (set slots made e) = sym (drop-set-lt (made + 1) slots made e (omega arith)) in
     ap (after made (take made slots))
-      (one-call cs slots made c e a b h k
-      ∙ (ap (λ (o : Outcome Answer). comparedOn o (callOf (getD cs made c) b) (drop (made + 1) slots) (others (drop (made + 1) slots))) (sym p)
-      ∙ (ap (λ (o : Outcome Answer). comparedOn x o (drop (made + 1) slots) (others (drop (made + 1) slots))) (sym q)
-      ∙ ap (λ (s : List Exchange). comparedOn x y s (others s)) left)))
+    (one-call cs slots made c e a b h k
+    ∙ (ap (λ (o : Outcome Answer). comparedOn o (callOf (getD cs made c) b) (drop (made + 1) slots) (others (drop (made + 1) slots))) (sym p)
+    ∙ (ap (λ (o : Outcome Answer). comparedOn x o (drop (made + 1) slots) (others (drop (made + 1) slots))) (sym q)
+    ∙ ap (λ (s : List Exchange). comparedOn x y s (others s)) left)))
     ∙ written-on slots made e
-      (cond (enters (e .ours) || enters (e .theirs))
-      (compared a′ b′ (drop (made + 1) (set slots made e)) (comparison 0 (entryOf (e .ours)) (entryOf (e .theirs))))
-      (compareOf (drop (made + 1) cs) (drop (made + 1) (set slots made e)) a′ b′)) k
+    (cond (enters (e .ours) || enters (e .theirs))
+    (compared a′ b′ (drop (made + 1) (set slots made e)) (comparison 0 (entryOf (e .ours)) (entryOf (e .theirs))))
+    (compareOf (drop (made + 1) cs) (drop (made + 1) (set slots made e)) a′ b′)) k
 
 -- what the answers say of an entry
 either : (e : Exchange) (x y : Option Event) (t : Bool) → x ≡ entryOf (e .ours) → y ≡ entryOf (e .theirs) → isEvent x || isEvent y ≡ t → enters (e .ours) || enters (e .theirs) ≡ t

@@ -19,8 +19,8 @@ loop-made-again g c =
     let a′ = world (last .ours .state) (g .Ours·Memory .marks (last .our-memory)) (g .Ours·Memory .bytes (last .our-memory)) in
     let b′ = world (last .theirs .state) (g .Theirs·Memory .marks (last .their-memory)) (g .Theirs·Memory .bytes (last .their-memory)) in
     let turned =
-        goes-on (c .args .calls .now) (c .loop-made .exchanges) (c .loop-made .made) Step a b a′ b′ (c .give-both-exchange .result) (c .entry .result) (c .entry-in-loop-made .result)
-        h k (given .ours) (given .theirs) (c .entry .ensures) (c .entry-in-loop-made .ensures) (sym (c .has-entry .ensures) ∙ c .if-has-entry .left) in
+    goes-on (c .args .calls .now) (c .loop-made .exchanges) (c .loop-made .made) Step a b a′ b′ (c .give-both-exchange .result) (c .entry .result) (c .entry-in-loop-made .result)
+    h k (given .ours) (given .theirs) (c .entry .ensures) (c .entry-in-loop-made .ensures) (sym (c .has-entry .ensures) ∙ c .if-has-entry .left) in
     (sym turned ∙ i .0, given .our-rest ∙ i .1, given .their-rest ∙ i .2)
 
 pub returns-then-has-entry : need.returns-then-has-entry
@@ -35,8 +35,8 @@ returns-then-has-entry g c =
     let a′ = world (last .ours .state) (g .Ours·Memory .marks (last .our-memory)) (g .Ours·Memory .bytes (last .our-memory)) in
     let b′ = world (last .theirs .state) (g .Theirs·Memory .marks (last .their-memory)) (g .Theirs·Memory .bytes (last .their-memory)) in
     let ended =
-        ends (c .args .calls .now) (c .loop-made .exchanges) (c .loop-made .made) Step a b a′ b′ (c .give-both-exchange .result) (c .entry .result) (c .entry-in-loop-made .result)
-        h k (given .ours) (given .theirs) (c .entry .ensures) (c .entry-in-loop-made .ensures) (sym (c .has-entry .ensures) ∙ c .if-has-entry .taken) in
+    ends (c .args .calls .now) (c .loop-made .exchanges) (c .loop-made .made) Step a b a′ b′ (c .give-both-exchange .result) (c .entry .result) (c .entry-in-loop-made .result)
+    h k (given .ours) (given .theirs) (c .entry .ensures) (c .entry-in-loop-made .ensures) (sym (c .has-entry .ensures) ∙ c .if-has-entry .taken) in
     record { exact = sym ended ∙ i .0; our-rest = given .our-rest ∙ i .1; their-rest = given .their-rest ∙ i .2 }
 
 pub returns : need.returns

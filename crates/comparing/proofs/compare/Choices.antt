@@ -8,10 +8,10 @@ use Rattle.comparing.proofs.compare.Given as given
 abbrev pub Inv-loop-made : given.InvT-loop-made
 Inv-loop-made g l =
     (remaining (l .made) (l .calls) (l .exchanges)
-      (world (l .ours .state) (g .Ours·Memory .marks (l .our-memory)) (g .Ours·Memory .bytes (l .our-memory)))
-      (world (l .theirs .state) (g .Theirs·Memory .marks (l .their-memory)) (g .Theirs·Memory .bytes (l .their-memory)))
+    (world (l .ours .state) (g .Ours·Memory .marks (l .our-memory)) (g .Ours·Memory .bytes (l .our-memory)))
+    (world (l .theirs .state) (g .Theirs·Memory .marks (l .their-memory)) (g .Theirs·Memory .bytes (l .their-memory)))
     ≡ compareOf (l .calls) (l .entry .exchanges)
-      (world (l .entry .ours .state) (g .Ours·Memory .marks (l .entry .our-memory)) (g .Ours·Memory .bytes (l .entry .our-memory)))
-      (world (l .entry .theirs .state) (g .Theirs·Memory .marks (l .entry .their-memory)) (g .Theirs·Memory .bytes (l .entry .their-memory))))
+    (world (l .entry .ours .state) (g .Ours·Memory .marks (l .entry .our-memory)) (g .Ours·Memory .bytes (l .entry .our-memory)))
+    (world (l .entry .theirs .state) (g .Theirs·Memory .marks (l .entry .their-memory)) (g .Theirs·Memory .bytes (l .entry .their-memory))))
     × (g .Ours·Memory .rest (l .our-memory) ≡ g .Ours·Memory .rest (l .entry .our-memory))
     × (g .Theirs·Memory .rest (l .their-memory) ≡ g .Theirs·Memory .rest (l .entry .their-memory))
