@@ -13,3 +13,4 @@ pub mod Steps
 pub mod Runs
 pub mod Cards
 pub mod Laws
+pub mod UserRuns
