@@ -39,6 +39,7 @@ pub data Said : Type 0 where
   reset : Said
   step : Said
   run : ℕ → Said
+  userRun : ℕ → Said
   raise : ℕ → Said
   drive : ℕ → ℕ → Said
   register : ℕ → Said
@@ -46,6 +47,7 @@ pub data Said : Type 0 where
   pc : Said
   output : ℕ → Said
   state : Said
+  pair : List ℕ → Said
 
 abbrev pub said : Command → Said
 said command.Nothing = nothing
@@ -61,6 +63,7 @@ said (command.Bytes a n) = bytes a n
 said command.Reset = reset
 said command.Step = step
 said (command.Run n) = run n
+said (command.UserRun n) = userRun n
 said (command.Raise l) = raise l
 said (command.Drive p w) = drive p w
 said (command.Register n) = register n
@@ -68,6 +71,7 @@ said (command.SystemRegister n) = systemRegister n
 said command.Pc = pc
 said (command.Output p) = output p
 said command.State = state
+said (command.Pair f) = pair (now f)
 
 abbrev pub saidSome : Option Command → Option Said
 saidSome (Some c) = Some (said c)
@@ -88,6 +92,7 @@ commandRows =
     ∷ row "reset" verb.Reset
     ∷ row "step" verb.Step
     ∷ row "run" verb.Run
+    ∷ row "user-run" verb.UserRun
     ∷ row "raise" verb.Raise
     ∷ row "drive" verb.Drive
     ∷ row "reg" verb.Reg
@@ -95,6 +100,7 @@ commandRows =
     ∷ row "pc" verb.Pc
     ∷ row "out" verb.Out
     ∷ row "state" verb.State
+    ∷ row "pair" verb.Pair
     ∷ []
 
 abbrev pub rowNamed : Option Name → Option CommandRow
@@ -142,6 +148,7 @@ takenOf verb.Bytes rest = mapped (λ (p : Pair). bytes (p .first) (p .second)) (
 takenOf verb.Reset rest = aloneSaid rest reset
 takenOf verb.Step rest = aloneSaid rest step
 takenOf verb.Run rest = mapped run (oneNumber rest 4294967295)
+takenOf verb.UserRun rest = mapped userRun (oneNumber rest 4294967295)
 takenOf verb.Raise rest = mapped raise (oneNumber rest 4294967295)
 takenOf verb.Drive rest = mapped (λ (p : Pair). drive (p .first) (p .second)) (twoNumbers rest 4294967295 65535)
 takenOf verb.Reg rest = mapped register (oneNumber rest 4294967295)
@@ -149,6 +156,7 @@ takenOf verb.Sys rest = mapped systemRegister (oneNumber rest 4294967295)
 takenOf verb.Pc rest = aloneSaid rest pc
 takenOf verb.Out rest = mapped output (oneNumber rest 4294967295)
 takenOf verb.State rest = aloneSaid rest state
+takenOf verb.Pair rest = mapped pair rest
 
 abbrev pub orUnknown : Option Said → Said
 orUnknown (Some s) = s

@@ -33,6 +33,7 @@ pub enum Verb {
     Reset,
     Step,
     Run,
+    UserRun,
     Raise,
     Drive,
     Reg,
@@ -40,6 +41,7 @@ pub enum Verb {
     Pc,
     Out,
     State,
+    Pair,
 }
 
 /// A row of the table of commands.
@@ -59,7 +61,7 @@ pub impl Entry for CommandRow as CommandRowEntry {
     }
 }
 
-const COMMANDS: [CommandRow; 16] = [
+const COMMANDS: [CommandRow; 18] = [
     CommandRow {
         name: Name {
             letters: *b"text    ",
@@ -116,6 +118,12 @@ const COMMANDS: [CommandRow; 16] = [
     },
     CommandRow {
         name: Name {
+            letters: *b"user-run",
+        },
+        verb: Verb::UserRun,
+    },
+    CommandRow {
+        name: Name {
             letters: *b"raise   ",
         },
         verb: Verb::Raise,
@@ -156,6 +164,12 @@ const COMMANDS: [CommandRow; 16] = [
         },
         verb: Verb::State,
     },
+    CommandRow {
+        name: Name {
+            letters: *b"pair    ",
+        },
+        verb: Verb::Pair,
+    },
 ];
 
 /// What a line asks for. File names and texts are parts of the line itself.
@@ -175,6 +189,7 @@ pub enum Command<'a> {
     Reset,
     Step,
     Run { steps: u32 },
+    UserRun { steps: u32 },
     Raise { line: u32 },
     Drive { port: u32, word: u16 },
     Register { number: u32 },
@@ -182,6 +197,7 @@ pub enum Command<'a> {
     Pc,
     Output { port: u32 },
     State,
+    Pair { file: &'a [u8] },
 }
 
 /// The command that a line is.
@@ -266,6 +282,7 @@ fn taken<'a>(verb: Verb, rest: Option<&'a [u8]>) -> Option<Command<'a>>
         Verb::Word => Some(Command::Word { text: rest? }),
         Verb::List => Some(Command::List { file: rest? }),
         Verb::Load => Some(Command::Load { file: rest? }),
+        Verb::Pair => Some(Command::Pair { file: rest? }),
         Verb::Memory => memory(rest?),
         Verb::Bytes => {
             let pair = two_numbers(rest, u32::MAX, MOST_SHOWN)?;
@@ -275,6 +292,9 @@ fn taken<'a>(verb: Verb, rest: Option<&'a [u8]>) -> Option<Command<'a>>
             })
         }
         Verb::Run => Some(Command::Run {
+            steps: one_number(rest, u32::MAX)?,
+        }),
+        Verb::UserRun => Some(Command::UserRun {
             steps: one_number(rest, u32::MAX)?,
         }),
         Verb::Raise => Some(Command::Raise {

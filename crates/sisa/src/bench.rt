@@ -7,6 +7,7 @@ use loading::load::load;
 use machine::answer::Refusal;
 use machine::answer::RunAnswer;
 use machine::answer::StepAnswer;
+use machine::answer::UserRunAnswer;
 use machine::machine::Machine;
 use memory::Memory;
 use memory::MemoryFault;
@@ -103,6 +104,32 @@ impl Bench {
                 )
             }
         }
+    }
+
+    /// Makes up to `steps` steps of a user program.
+    pub fn user_run(&mut self, steps: u32) -> Result<UserRunAnswer, Refusal> {
+        match &mut self.store {
+            Store::Flat { bytes } => self.machine
+                .user_run(&mut FlatMemory::over(bytes.as_mut_slice()), steps),
+            Store::Split { fixed, plain } => {
+                self.machine.user_run(
+                    &mut SplitMemory::over(fixed.as_slice(), plain.as_mut_slice()),
+                    steps,
+                )
+            }
+        }
+    }
+
+    /// The byte at a physical address, 0 where there is none.
+    pub fn byte(&mut self, address: u16) -> u8 {
+        let answer = match &mut self.store {
+            Store::Flat { bytes } => FlatMemory::over(bytes.as_mut_slice()).read(address),
+            Store::Split { fixed, plain } => SplitMemory::over(
+                fixed.as_slice(),
+                plain.as_mut_slice(),
+            ).read(address),
+        };
+        answer.unwrap_or(0)
     }
 
     /// Loads a file, and prints what came of it.

@@ -1,6 +1,7 @@
 //! The monitor: reads commands, one a line, and writes the answer to each.
 mod bench;
 mod listing;
+mod pair;
 mod readings;
 mod session;
 

@@ -1,9 +1,13 @@
-//! The machine's answers, in print.
+//! The machine's answers, as text.
 use machine::answer::Ending;
 use machine::answer::Refusal;
 use machine::answer::RunAnswer;
 use machine::answer::StepAnswer;
+use machine::answer::UserEnding;
+use machine::answer::UserRunAnswer;
 use machine::machine::Machine;
+use std::alloc::AllocError;
+use std::alloc::Global;
 use std::error::AnyError;
 
 const REGISTERS: u32 = 8;
@@ -12,54 +16,75 @@ const LINES: u32 = 8;
 
 const PORTS: u32 = 256;
 
-fn print_refusal(rt: &LibcRuntime, refusal: Refusal) -> Result<(), AnyError> {
-    println!(rt, "refused {}", refusal.number())?;
-    Ok(())
+fn refused(heap: Global, refusal: Refusal) -> Result<String, AllocError> {
+    format!(heap, "refused {}", refusal.number())
 }
 
-pub fn print_step(rt: &LibcRuntime, answer: Result<StepAnswer, Refusal>) -> Result<(), AnyError> {
+/// What a step came to.
+pub fn step_text(heap: Global, answer: Result<StepAnswer, Refusal>) -> Result<String, AllocError> {
     match answer {
-        Ok(StepAnswer::Ran) => println!(rt, "ran")?,
-        Ok(StepAnswer::Halted) => println!(rt, "halted")?,
-        Ok(StepAnswer::Entered(event)) => println!(rt, "entered {}", event.code())?,
-        Err(refusal) => print_refusal(rt, refusal)?,
+        Ok(StepAnswer::Ran) => String::from_str(heap, "ran"),
+        Ok(StepAnswer::Halted) => String::from_str(heap, "halted"),
+        Ok(StepAnswer::Entered(event)) => format!(heap, "entered {}", event.code()),
+        Err(refusal) => refused(heap, refusal),
     }
-    Ok(())
 }
 
-pub fn print_run(rt: &LibcRuntime, answer: Result<RunAnswer, Refusal>) -> Result<(), AnyError> {
+/// How a run ended.
+pub fn run_text(heap: Global, answer: Result<RunAnswer, Refusal>) -> Result<String, AllocError> {
     match answer {
         Ok(
             RunAnswer {
                 steps,
                 ending: Ending::Halted,
             },
-        ) => println!(rt, "steps {steps} halted")?,
+        ) => format!(heap, "steps {steps} halted"),
         Ok(
             RunAnswer {
                 steps,
                 ending: Ending::Spent,
             },
-        ) => println!(rt, "steps {steps} spent")?,
-        Err(refusal) => print_refusal(rt, refusal)?,
+        ) => format!(heap, "steps {steps} spent"),
+        Err(refusal) => refused(heap, refusal),
     }
-    Ok(())
 }
 
-pub fn print_done(rt: &LibcRuntime, answer: Result<(), Refusal>) -> Result<(), AnyError> {
+/// How a run of a user program ended.
+pub fn user_run_text(
+    heap: Global,
+    answer: Result<UserRunAnswer, Refusal>,
+) -> Result<String, AllocError> {
     match answer {
-        Ok(()) => println!(rt, "done")?,
-        Err(refusal) => print_refusal(rt, refusal)?,
+        Ok(
+            UserRunAnswer {
+                steps,
+                ending: UserEnding::Entered(event),
+            },
+        ) => { format!(heap, "steps {steps} entered {}", event.code()) }
+        Ok(
+            UserRunAnswer {
+                steps,
+                ending: UserEnding::Spent,
+            },
+        ) => format!(heap, "steps {steps} spent"),
+        Err(refusal) => refused(heap, refusal),
     }
-    Ok(())
 }
 
-pub fn print_word(rt: &LibcRuntime, answer: Result<u16, Refusal>) -> Result<(), AnyError> {
+/// That something was done.
+pub fn done_text(heap: Global, answer: Result<(), Refusal>) -> Result<String, AllocError> {
     match answer {
-        Ok(word) => println!(rt, "{word:04X}")?,
-        Err(refusal) => print_refusal(rt, refusal)?,
+        Ok(()) => String::from_str(heap, "done"),
+        Err(refusal) => refused(heap, refusal),
     }
-    Ok(())
+}
+
+/// A word that was read.
+pub fn word_text(heap: Global, answer: Result<u16, Refusal>) -> Result<String, AllocError> {
+    match answer {
+        Ok(word) => format!(heap, "{word:04X}"),
+        Err(refusal) => refused(heap, refusal),
+    }
 }
 
 /// All registers, the halted mark and the waiting lines on one line, the output words on the next.

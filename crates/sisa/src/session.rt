@@ -1,11 +1,13 @@
 //! One session: each line of the input is a command, and is answered before the next is read.
 use crate::bench::Bench;
 use crate::listing::list;
-use crate::readings::print_done;
-use crate::readings::print_run;
+use crate::pair::pair;
+use crate::readings::done_text;
 use crate::readings::print_state;
-use crate::readings::print_step;
-use crate::readings::print_word;
+use crate::readings::run_text;
+use crate::readings::step_text;
+use crate::readings::user_run_text;
+use crate::readings::word_text;
 use monitor::commands::Command;
 use monitor::commands::parse_command;
 use std::error::AnyError;
@@ -61,6 +63,11 @@ fn answer(rt: &LibcRuntime, bench: &mut Bench, command: Command<'_>) -> Result<(
             None => {}
         },
         Command::Bytes { address, count } => bench.print_bytes(rt, address, count)?,
+        Command::State => print_state(rt, &bench.machine)?,
+        Command::Pair { file } => match read_file(rt, file)? {
+            Some(script) => pair(rt, bench, script.as_slice())?,
+            None => {}
+        },
         _ => answer_machine(rt, bench, command)?,
     }
     Ok(())
@@ -72,25 +79,27 @@ fn answer_machine(
     bench: &mut Bench,
     command: Command<'_>,
 ) -> Result<(), AnyError> {
-    match command {
+    let heap = rt.alloc();
+    let text = match command {
         Command::Reset => {
             bench.machine.reset();
-            println!(rt, "done")?;
+            done_text(heap, Ok(()))?
         }
-        Command::Step => print_step(rt, bench.step())?,
-        Command::Run { steps } => print_run(rt, bench.run(steps))?,
-        Command::Raise { line } => print_done(rt, bench.machine.raise(line))?,
-        Command::Drive { port, word } => print_done(rt, bench.machine.drive(port, word))?,
-        Command::Register { number } => print_word(rt, bench.machine.register(number))?,
-        Command::SystemRegister { number } => print_word(
-            rt,
+        Command::Step => step_text(heap, bench.step())?,
+        Command::Run { steps } => run_text(heap, bench.run(steps))?,
+        Command::UserRun { steps } => user_run_text(heap, bench.user_run(steps))?,
+        Command::Raise { line } => done_text(heap, bench.machine.raise(line))?,
+        Command::Drive { port, word } => done_text(heap, bench.machine.drive(port, word))?,
+        Command::Register { number } => word_text(heap, bench.machine.register(number))?,
+        Command::SystemRegister { number } => word_text(
+            heap,
             bench.machine.system_register(number),
         )?,
-        Command::Pc => print_word(rt, Ok(bench.machine.pc()))?,
-        Command::Output { port } => print_word(rt, bench.machine.output(port))?,
-        Command::State => print_state(rt, &bench.machine)?,
-        _ => {}
-    }
+        Command::Pc => word_text(heap, Ok(bench.machine.pc()))?,
+        Command::Output { port } => word_text(heap, bench.machine.output(port))?,
+        _ => String::new(heap),
+    };
+    println!(rt, "{text}")?;
     Ok(())
 }
 
