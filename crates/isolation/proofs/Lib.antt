@@ -1,1 +1,4 @@
 pub mod Translation
+pub mod Agreeing
+pub mod Entering
+pub mod Execution
