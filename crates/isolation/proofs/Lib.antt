@@ -2,3 +2,4 @@ pub mod Translation
 pub mod Agreeing
 pub mod Entering
 pub mod Execution
+pub mod Stepping
