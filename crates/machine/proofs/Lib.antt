@@ -1,3 +1,5 @@
 mod Lines
 mod Turns
 pub mod Soundness
+pub mod UserSteps
+mod UserTurns

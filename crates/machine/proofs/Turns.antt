@@ -15,7 +15,7 @@ use Rattle.machine.specs.Runs.{oneMore, runAnswer, runOf, runOn}
 abbrev pub after : ℕ → Outcome RunAnswer → Outcome RunAnswer
 after made o = outcome (o .after) (runAnswer (o .answer .steps + made) (o .answer .ending))
 
-one-step : (n made : ℕ) → made < n → n - made ≡ suc (n - (made + 1))
+pub one-step : (n made : ℕ) → made < n → n - made ≡ suc (n - (made + 1))
 one-step n made h = omega arith
 
 run-step : (n made : ℕ) (w w′ : World) (r : StepAnswer) → made < n → outcome w′ r ≡ stepOf w → runOf (n - made) w ≡ runOn r w′ (runOf (n - (made + 1)))
@@ -42,7 +42,7 @@ run-halts n made w w′ r h e halts =
     ap (after made) (run-step n made w w′ r h e ∙ ap (λ (a : StepAnswer). runOn a w′ (runOf (n - (made + 1)))) halts)
     ∙ same-count w′ Halted (1 + made) (made + 1) (omega arith)
 
-none-left : (n made : ℕ) → n ≤ made → n - made ≡ 0
+pub none-left : (n made : ℕ) → n ≤ made → n - made ≡ 0
 none-left n made h = omega arith
 
 pub run-spent : (n made : ℕ) (w : World) → n ≤ made → after made (runOf (n - made) w) ≡ outcome w (runAnswer made Spent)
@@ -50,7 +50,7 @@ unfolding runOf
 run-spent n made w h =
     ap (after made) (ap (λ (k : ℕ). runOf k w) (none-left n made h)) ∙ same-count w Spent (0 + made) made (omega arith)
 
-none-made : (n : ℕ) → n - 0 ≡ n
+pub none-made : (n : ℕ) → n - 0 ≡ n
 none-made n = omega arith
 
 pub run-begins : (n : ℕ) (w : World) → after 0 (runOf (n - 0) w) ≡ runOf n w

@@ -11,3 +11,4 @@ pub mod Control
 pub mod Execution
 pub mod Steps
 pub mod Runs
+pub mod UserRuns

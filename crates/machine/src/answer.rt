@@ -19,6 +19,8 @@ pub enum Refusal {
     NoSuchRegister,
     /// More steps are asked for than a run may make.
     TooManySteps,
+    /// The machine is in system mode, where no user program runs.
+    SystemMode,
 }
 
 impl Refusal {
@@ -32,6 +34,7 @@ impl Refusal {
             Refusal::NoSuchPort => 3,
             Refusal::NoSuchRegister => 4,
             Refusal::TooManySteps => 5,
+            Refusal::SystemMode => 6,
         }
     }
 }
@@ -56,4 +59,18 @@ pub enum Ending {
 pub struct RunAnswer {
     pub steps: u32,
     pub ending: Ending,
+}
+
+/// How a user run ended: with an entry into the system, or with all its steps made.
+#[derive(Clone, Copy, PartialEq, Eq, Debug)]
+pub enum UserEnding {
+    Entered(Event),
+    Spent,
+}
+
+/// How many steps a user run made, the entering one with them, and how it ended.
+#[derive(Clone, Copy, PartialEq, Eq, Debug)]
+pub struct UserRunAnswer {
+    pub steps: u32,
+    pub ending: UserEnding,
 }
