@@ -6,20 +6,12 @@ use Rattle.std.proofs.shelf.Tests.{true≢false}
 use Rattle.translation.specs.declared.event.Event.{Event}
 use Rattle.machine.specs.declared.state.SystemRegisters.{SystemRegisters}
 use Rattle.machine.specs.declared.state.Tables.{Tables}
-use Rattle.machine.specs.declared.answer.StepAnswer.{StepAnswer}
-use Rattle.machine.specs.declared.answer.StepAnswer.the-variants as answer
 use Rattle.machine.specs.Status.{isUser}
 use Rattle.machine.specs.Steps.{entered, entering}
 use Rattle.machine.specs.Worlds.{Outcome, World, withState}
 use Rattle.isolation.specs.Share.{Agree, AgreeButPc, OpenForWriting}
 use Rattle.isolation.specs.Law.{Alike, EntryOnly, HaveEntered, Kept, StillUser}
 use Rattle.isolation.proofs.Agreeing.{Running, Stands, status-alike}
-
--- whether a step has entered the system
-abbrev pub isEntry : StepAnswer → Bool
-isEntry answer.Ran = false
-isEntry answer.Halted = false
-isEntry (answer.Entered e) = true
 
 -- where they are, by whether they have entered the system
 abbrev pub Came : Bool → World → World → World → World → Type 0
@@ -129,6 +121,15 @@ both-after t a b p q a′ b′ x y =
       ours = kept-after a p a′ (x .ours) (y .ours);
       theirs = kept-after b q b′ (x .theirs) (y .theirs);
     }
+
+-- two outcomes answer the same and come to the same, by whether the answer tells of an entry
+pub record Paired {T : Type 0} (entry : T → Bool) (a b : World) (x y : Outcome T) : Type 0 where
+  pub answer : x .answer ≡ y .answer
+  pub both : Both (entry (x .answer)) a b (x .after) (y .after)
+
+pub paired-after : {T : Type 0} (entry : T → Bool) (a b p q : World) (x y : Outcome T) → Both false a b p q → Paired entry p q x y → Paired entry a b x y
+paired-after entry a b p q x y first later =
+    record { answer = later .answer; both = both-after (entry (x .answer)) a b p q (x .after) (y .after) first (later .both) }
 
 -- two machines that are still in user mode run on
 pub still-ours : (a b p q : World) → Both false a b p q → Stands a p

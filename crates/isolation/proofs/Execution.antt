@@ -37,16 +37,19 @@ use Rattle.machine.specs.Status.{isUser}
 use Rattle.machine.specs.Steps.{concluded, entering, performed}
 use Rattle.machine.specs.Worlds.{Outcome, World, outcome, withState, world}
 use Rattle.machine.proofs.Soundness.{resolved}
+use Rattle.calls.specs.Calls.{isEvent, stepEntry}
 use Rattle.isolation.specs.Share.{Agree, AgreeButPc, OpenForWriting}
 use Rattle.isolation.specs.Law.{Kept}
 use Rattle.isolation.proofs.Translation.{loaded-alike, store-answer-alike, stored-alike, stored-kept}
 use Rattle.isolation.proofs.Agreeing.{Running, Stands, accesses-shown, changed, changed-agree, changed-stands, same-stands, status-alike}
-use Rattle.isolation.proofs.Entering.{Both, entering-both, isEntry, ran-both}
+use Rattle.isolation.proofs.Entering.{Paired, entering-both, ran-both}
 
 -- two steps, or what is left of them, answer the same and come to the same
-pub record Paired (a b : World) (x y : Outcome StepAnswer) : Type 0 where
-  pub answer : x .answer ≡ y .answer
-  pub both : Both (isEntry (x .answer)) a b (x .after) (y .after)
+abbrev pub isEntry : StepAnswer → Bool
+isEntry r = isEvent (stepEntry r)
+
+abbrev pub StepPaired : World → World → Outcome StepAnswer → Outcome StepAnswer → Type 0
+StepPaired a b x y = Paired isEntry a b x y
 
 -- what is the same in user mode is the same for two machines that are in it
 pub in-user : {T : Type 0} (f g : Bool → T) (s t : Bool) → s ≡ true → t ≡ true → f true ≡ g true → f s ≡ g t
@@ -86,16 +89,16 @@ given o word number = record { inputs = o .inputs; outputs = set (o .outputs) nu
 
 module _ (a b : World) (u : Running a) (v : Running b) (g : Agree a b) where
   -- an event is raised
-  pub entering-paired : (p q : World) (e : Event) (d d′ : ℕ) → Agree p q → Stands a p → Stands b q → d ≡ d′ → Paired a b (entering e d p) (entering e d′ q)
+  pub entering-paired : (p q : World) (e : Event) (d d′ : ℕ) → Agree p q → Stands a p → Stands b q → d ≡ d′ → StepPaired a b (entering e d p) (entering e d′ q)
   entering-paired p q e d d′ h s t same =
       let status = ap (λ (y : SystemRegisters). y .status) (s .system) ∙ status-alike a b u v g ∙ sym (ap (λ (y : SystemRegisters). y .status) (t .system)) in
       record { answer = refl; both = entering-both a b p q e d d′ status h s t same }
 
-  raised-paired : (e : Event) (d d′ : ℕ) → d ≡ d′ → Paired a b (entering e d a) (entering e d′ b)
+  raised-paired : (e : Event) (d d′ : ℕ) → d ≡ d′ → StepPaired a b (entering e d a) (entering e d′ b)
   raised-paired e d d′ same = entering-paired a b e d d′ g (same-stands a) (same-stands b) same
 
   -- registers, PC and ports change alike
-  changed-paired : (r r′ : List ℕ) (c c′ : ℕ) (o o′ : Ports) → r ≡ r′ → c ≡ c′ → o ≡ o′ → Paired a b (outcome (changed r c o (a .state .waiting) a) answer.Ran) (outcome (changed r′ c′ o′ (b .state .waiting) b) answer.Ran)
+  changed-paired : (r r′ : List ℕ) (c c′ : ℕ) (o o′ : Ports) → r ≡ r′ → c ≡ c′ → o ≡ o′ → StepPaired a b (outcome (changed r c o (a .state .waiting) a) answer.Ran) (outcome (changed r′ c′ o′ (b .state .waiting) b) answer.Ran)
   changed-paired r r′ c c′ o o′ p q s =
       record {
         answer = refl;
@@ -112,28 +115,28 @@ module _ (a b : World) (u : Running a) (v : Running b) (g : Agree a b) where
   set-alike : (d : Register) (x y : ℕ) → x ≡ y → set (a .state .registers) (registerNumber d) x ≡ set (b .state .registers) (registerNumber d) y
   set-alike d x y e = ap (λ (l : List ℕ). set l (registerNumber d) x) (g .butPc .registers) ∙ ap (λ (k : ℕ). set (b .state .registers) (registerNumber d) k) e
 
-  register-paired : (d : Register) (x y : ℕ) → x ≡ y → Paired a b (outcome (withState (registerSet d x (a .state)) a) answer.Ran) (outcome (withState (registerSet d y (b .state)) b) answer.Ran)
+  register-paired : (d : Register) (x y : ℕ) → x ≡ y → StepPaired a b (outcome (withState (registerSet d x (a .state)) a) answer.Ran) (outcome (withState (registerSet d y (b .state)) b) answer.Ran)
   register-paired d x y e =
       changed-paired (set (a .state .registers) (registerNumber d) x) (set (b .state .registers) (registerNumber d) y) (a .state .pc) (b .state .pc) (a .state .ports) (b .state .ports)
       (set-alike d x y e) (g .pc) (g .butPc .ports)
 
-  jumped-paired : (s t : Bool) (to to′ : ℕ) → s ≡ t → to ≡ to′ → Paired a b (outcome (withState (jumpedIf s to (a .state)) a) answer.Ran) (outcome (withState (jumpedIf t to′ (b .state)) b) answer.Ran)
+  jumped-paired : (s t : Bool) (to to′ : ℕ) → s ≡ t → to ≡ to′ → StepPaired a b (outcome (withState (jumpedIf s to (a .state)) a) answer.Ran) (outcome (withState (jumpedIf t to′ (b .state)) b) answer.Ran)
   jumped-paired s t to to′ e f =
-      subst (λ (z : Bool). Paired a b (outcome (withState (jumpedIf s to (a .state)) a) answer.Ran) (outcome (withState (jumpedIf z to′ (b .state)) b) answer.Ran)) e (go s)
+      subst (λ (z : Bool). StepPaired a b (outcome (withState (jumpedIf s to (a .state)) a) answer.Ran) (outcome (withState (jumpedIf z to′ (b .state)) b) answer.Ran)) e (go s)
     where
-      go : (z : Bool) → Paired a b (outcome (withState (jumpedIf z to (a .state)) a) answer.Ran) (outcome (withState (jumpedIf z to′ (b .state)) b) answer.Ran)
+      go : (z : Bool) → StepPaired a b (outcome (withState (jumpedIf z to (a .state)) a) answer.Ran) (outcome (withState (jumpedIf z to′ (b .state)) b) answer.Ran)
       go true = changed-paired (a .state .registers) (b .state .registers) to to′ (a .state .ports) (b .state .ports) (g .butPc .registers) f (g .butPc .ports)
       go false = changed-paired (a .state .registers) (b .state .registers) (a .state .pc) (b .state .pc) (a .state .ports) (b .state .ports) (g .butPc .registers) (g .pc) (g .butPc .ports)
 
   -- loads
-  loaded-paired : (r : Result ℕ Event) (d : Register) (width : Width) (x : ℕ) → Paired a b (resolved (loadedBy r d width x a)) (resolved (loadedBy r d width x b))
+  loaded-paired : (r : Result ℕ Event) (d : Register) (width : Width) (x : ℕ) → StepPaired a b (resolved (loadedBy r d width x a)) (resolved (loadedBy r d width x b))
   loaded-paired (Ok n) d width x = register-paired d (extended width n) (extended width n) refl
   loaded-paired (Err e) d width x = raised-paired e x x refl
 
-  load-paired : (d : Register) (width : Width) (x y : ℕ) → x ≡ y → Paired a b (resolved (loadedInto d width x a)) (resolved (loadedInto d width y b))
+  load-paired : (d : Register) (width : Width) (x y : ℕ) → x ≡ y → StepPaired a b (resolved (loadedInto d width x a)) (resolved (loadedInto d width y b))
   load-paired d width x y e =
-      subst (λ (k : ℕ). Paired a b (resolved (loadedInto d width x a)) (resolved (loadedInto d width k b))) e
-      (subst (λ (r : Result ℕ Event). Paired a b (resolved (loadedInto d width x a)) (resolved (loadedBy r d width x b))) same (loaded-paired (loadedFor a width x) d width x))
+      subst (λ (k : ℕ). StepPaired a b (resolved (loadedInto d width x a)) (resolved (loadedInto d width k b))) e
+      (subst (λ (r : Result ℕ Event). StepPaired a b (resolved (loadedInto d width x a)) (resolved (loadedBy r d width x b))) same (loaded-paired (loadedFor a width x) d width x))
     where
       same : loadedFor a width x ≡ loadedFor b width x
       same =
@@ -141,14 +144,14 @@ module _ (a b : World) (u : Running a) (v : Running b) (g : Agree a b) where
           (loaded-alike _ _ _ _ _ _ (accesses-shown a b g) width x)
 
   -- stores
-  stored-paired : (r : Result (Unit {0}) Event) (x : ℕ) (p q : World) → Agree p q → Stands a p → Stands b q → Paired a b (concluded (storeAnsweredBy r x) p) (concluded (storeAnsweredBy r x) q)
+  stored-paired : (r : Result (Unit {0}) Event) (x : ℕ) (p q : World) → Agree p q → Stands a p → Stands b q → StepPaired a b (concluded (storeAnsweredBy r x) p) (concluded (storeAnsweredBy r x) q)
   stored-paired (Ok _) x p q h s t = record { answer = refl; both = ran-both a b p q h s t }
   stored-paired (Err e) x p q h s t = entering-paired p q e x x h s t refl
 
-  store-paired : (r : Register) (width : Width) (x y : ℕ) → x ≡ y → Paired a b (resolved (storedFrom r width x a)) (resolved (storedFrom r width y b))
+  store-paired : (r : Register) (width : Width) (x y : ℕ) → x ≡ y → StepPaired a b (resolved (storedFrom r width x a)) (resolved (storedFrom r width y b))
   store-paired r width x y e =
-      subst (λ (k : ℕ). Paired a b (resolved (storedFrom r width x a)) (resolved (storedFrom r width k b))) e
-      (subst (λ (z : Result (Unit {0}) Event). Paired a b (resolved (storedFrom r width x a)) (concluded (storeAnsweredBy z x) (storeLeft b r width x))) answers
+      subst (λ (k : ℕ). StepPaired a b (resolved (storedFrom r width x a)) (resolved (storedFrom r width k b))) e
+      (subst (λ (z : Result (Unit {0}) Event). StepPaired a b (resolved (storedFrom r width x a)) (concluded (storeAnsweredBy z x) (storeLeft b r width x))) answers
       (stored-paired (storeAnswered a width x) x (storeLeft a r width x) (storeLeft b r width x) agreed (store-stands a u r width x) (store-stands b v r width x)))
     where
       answers : storeAnswered a width x ≡ storeAnswered b width x
@@ -178,14 +181,14 @@ module _ (a b : World) (u : Running a) (v : Running b) (g : Agree a b) where
       }
 
   -- privileged instructions
-  privileged-paired : (p : Privileged) (s t : Bool) → s ≡ true → t ≡ true → Paired a b (resolved (privilegedBy s p a)) (resolved (privilegedBy t p b))
+  privileged-paired : (p : Privileged) (s t : Bool) → s ≡ true → t ≡ true → StepPaired a b (resolved (privilegedBy s p a)) (resolved (privilegedBy t p b))
   privileged-paired p true true h k = raised-paired event.Privileged 0 0 refl
   privileged-paired p true false h k = absurd (false≢true k)
   privileged-paired p false true h k = absurd (false≢true h)
   privileged-paired p false false h k = absurd (false≢true h)
 
   -- every instruction
-  executed-paired : (i : Instruction) → Paired a b (resolved (executed i a)) (resolved (executed i b))
+  executed-paired : (i : Instruction) → StepPaired a b (resolved (executed i a)) (resolved (executed i b))
   executed-paired (instruction.Operate o d x y) =
       register-paired d _ _ (ap (λ (l : List ℕ). valueOf o (registerAt x l) (registerAt y l)) (g .butPc .registers))
   executed-paired (instruction.Complement d x) = register-paired d _ _ (ap complementOf (at-alike x))
@@ -213,6 +216,6 @@ module _ (a b : World) (u : Running a) (v : Running b) (g : Agree a b) where
       (ap (λ (o : Ports). given o (registerAt y (a .state .registers)) (port .number)) (g .butPc .ports) ∙ ap (λ (k : ℕ). given (b .state .ports) k (port .number)) (at-alike y))
   executed-paired (instruction.Privileged p) = privileged-paired p _ _ (u .user) (v .user)
 
-  pub performed-paired : (o : Option Instruction) → Paired a b (performed o a) (performed o b)
+  pub performed-paired : (o : Option Instruction) → StepPaired a b (performed o a) (performed o b)
   performed-paired None = raised-paired event.IllegalInstruction 0 0 refl
   performed-paired (Some i) = executed-paired i

@@ -19,12 +19,8 @@ use Rattle.isolation.specs.Share.{Agree}
 use Rattle.isolation.specs.Law.{Alike}
 use Rattle.isolation.proofs.Translation.{fetched-alike}
 use Rattle.isolation.proofs.Agreeing.{Running, Stands, changed-agree, changed-stands, fetches-shown, same-stands, stands-running}
-use Rattle.isolation.proofs.Entering.{Both, both-after, both-alike, isEntry, ran-both}
-use Rattle.isolation.proofs.Execution.{Paired, entering-paired, in-user, performed-paired}
-
-paired-after : (a b p q : World) (x y : Outcome StepAnswer) → Both false a b p q → Paired p q x y → Paired a b x y
-paired-after a b p q x y first then =
-    record { answer = then .answer; both = both-after (isEntry (x .answer)) a b p q (x .after) (y .after) first (then .both) }
+use Rattle.isolation.proofs.Entering.{both-alike, paired-after, ran-both}
+use Rattle.isolation.proofs.Execution.{StepPaired, isEntry, entering-paired, in-user, performed-paired}
 
 -- what a machine fetches at its PC
 abbrev fetchedFor : World → Result ℕ Event
@@ -48,17 +44,17 @@ module _ (a b : World) (u : Running a) (v : Running b) (g : Agree a b) where
       (fetched-alike _ _ _ _ _ _ (fetches-shown a b g) (a .state .pc))
       ∙ ap (λ (n : ℕ). fetched (isUser (b .state .system .status)) (b .state .tables .instruction .entries) (b .marks) (b .bytes) n) (g .pc)
 
-  fetched-paired : (r : Result ℕ Event) → Paired a b (fetchedBy r (a .state .pc) (advanced a)) (fetchedBy r (b .state .pc) (advanced b))
+  fetched-paired : (r : Result ℕ Event) → StepPaired a b (fetchedBy r (a .state .pc) (advanced a)) (fetchedBy r (b .state .pc) (advanced b))
   fetched-paired (Ok word) =
-      paired-after a b (advanced a) (advanced b) _ _
+      paired-after isEntry a b (advanced a) (advanced b) _ _
       (ran-both a b (advanced a) (advanced b) advanced-agree (advanced-stands a) (advanced-stands b))
       (performed-paired (advanced a) (advanced b) (stands-running a (advanced a) u (advanced-stands a)) (stands-running b (advanced b) v (advanced-stands b)) advanced-agree (decodeOf word))
   fetched-paired (Err e) =
       entering-paired a b u v g (advanced a) (advanced b) e (a .state .pc) (b .state .pc) advanced-agree (advanced-stands a) (advanced-stands b) (g .pc)
 
-  tried-paired : Paired a b (fetchedBy (fetchedFor a) (a .state .pc) (advanced a)) (fetchedBy (fetchedFor b) (b .state .pc) (advanced b))
+  tried-paired : StepPaired a b (fetchedBy (fetchedFor a) (a .state .pc) (advanced a)) (fetchedBy (fetchedFor b) (b .state .pc) (advanced b))
   tried-paired =
-      subst (λ (r : Result ℕ Event). Paired a b (fetchedBy (fetchedFor a) (a .state .pc) (advanced a)) (fetchedBy r (b .state .pc) (advanced b))) fetch-same
+      subst (λ (r : Result ℕ Event). StepPaired a b (fetchedBy (fetchedFor a) (a .state .pc) (advanced a)) (fetchedBy r (b .state .pc) (advanced b))) fetch-same
       (fetched-paired (fetchedFor a))
 
   interrupted-same : isInterrupted (a .state) ≡ isInterrupted (b .state)
@@ -66,10 +62,10 @@ module _ (a b : World) (u : Running a) (v : Running b) (g : Agree a b) where
       ap (λ (z : Bool). z && isSome (lowestWaiting (a .state .waiting))) (g .butPc .interrupts)
       ∙ ap (λ (l : List Bool). interruptsOn (b .state .system .status) && isSome (lowestWaiting l)) (g .butPc .waiting)
 
-  pub step-paired : Paired a b (stepOf a) (stepOf b)
-  step-paired = subst (λ (z : Bool). Paired a b (stepOf a) (taken z b)) interrupted-same (go (isInterrupted (a .state)))
+  pub step-paired : StepPaired a b (stepOf a) (stepOf b)
+  step-paired = subst (λ (z : Bool). StepPaired a b (stepOf a) (taken z b)) interrupted-same (go (isInterrupted (a .state)))
     where
-      go : (z : Bool) → Paired a b (taken z a) (taken z b)
+      go : (z : Bool) → StepPaired a b (taken z a) (taken z b)
       go true = entering-paired a b u v g a b event.Interrupt 0 0 g (same-stands a) (same-stands b) refl
       go false = tried-paired
 
