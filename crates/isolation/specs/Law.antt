@@ -2,8 +2,13 @@
 use Prim.Native.Nat.{ℕ, _/_}
 use mathlib.Core.Path.{_≡_}
 use mathlib.Core.Bool.{true, false}
+use mathlib.Core.List.{List}
+use Rattle.machine.specs.Sound.{sound}
 use Rattle.machine.specs.Status.{isUser}
 use Rattle.machine.specs.Worlds.{World}
+use Rattle.calls.specs.declared.Answer.{Answer}
+use Rattle.calls.specs.declared.Call.{Call}
+use Rattle.calls.specs.Chains.{Chain}
 use Rattle.isolation.specs.Share.{Agree, AgreeButPc, OpenForWriting}
 
 -- A user program changes no table entry, no mark, and no byte in a frame that no user page opens for writing; nor does it
@@ -60,3 +65,15 @@ pub record Alike {T : Type 0} (ours theirs ours′ theirs′ : World) (r q : T) 
   pub entered : isUser (ours′ .state .system .status) ≡ false → HaveEntered ours theirs ours′ theirs′
   pub ourKept : Kept ours ours′
   pub theirKept : Kept theirs theirs′
+
+-- The law: two machines that can exist, each over its own memory, are in user mode and agree on the user's share. The same
+-- calls are made of both, in any order, refused ones among them, each leaving and answering what its contract says, up to the
+-- call that enters the system at the latest. Then they come to the same.
+abbrev pub Isolation : Type 0
+Isolation =
+    (calls : List Call) (ours theirs ours′ theirs′ : World) (r q : List Answer)
+    → sound (ours .state) ≡ true → sound (theirs .state) ≡ true
+    → isUser (ours .state .system .status) ≡ true → isUser (theirs .state .system .status) ≡ true
+    → Agree ours theirs
+    → Chain calls ours r ours′ → Chain calls theirs q theirs′
+    → Alike ours theirs ours′ theirs′ r q
