@@ -6,5 +6,4 @@ ghost use Rattle.isolation.specs.Law.{Isolation};
 /// contract.
 pub fn isolation_law()
     ensures { λ _. ⌜ Isolation ⌝ }
-{
-}
+{}
