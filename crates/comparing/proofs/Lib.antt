@@ -1,2 +1,3 @@
 mod Turns
 pub mod Chains
+pub mod Telling
