@@ -40,10 +40,10 @@ returns-then-has-entry g c =
     h k (given .ours) (given .theirs) (c .entry .ensures) (c .entry-in-loop-made .ensures) (sym (c .has-entry .ensures) ∙ c .if-has-entry .taken) in
     let exact = sym ended ∙ i .0 in
     let told =
-        isolated (c .args .calls .now) (c .args .exchanges .now) _
-        (world (c .args .ours .now .state) (g .Ours·Memory .marks (c .args .our-memory .now)) (g .Ours·Memory .bytes (c .args .our-memory .now)))
-        (world (c .args .theirs .now .state) (g .Theirs·Memory .marks (c .args .their-memory .now)) (g .Theirs·Memory .bytes (c .args .their-memory .now)))
-        a′ b′ _ (c .args .ours .now .sound) (c .args .theirs .now .sound) exact in
+    isolated (c .args .calls .now) (c .args .exchanges .now) _
+    (world (c .args .ours .now .state) (g .Ours·Memory .marks (c .args .our-memory .now)) (g .Ours·Memory .bytes (c .args .our-memory .now)))
+    (world (c .args .theirs .now .state) (g .Theirs·Memory .marks (c .args .their-memory .now)) (g .Theirs·Memory .bytes (c .args .their-memory .now)))
+    a′ b′ _ (c .args .ours .now .sound) (c .args .theirs .now .sound) exact in
     record { exact = exact; isolated = told; our-rest = given .our-rest ∙ i .1; their-rest = given .their-rest ∙ i .2 }
 
 pub returns : need.returns
@@ -55,10 +55,10 @@ returns g c =
     let e : c .loop-made .made ≡ c .min-most .result = omega arith in
     let exact = sym (over (c .args .calls .now) (c .loop-made .exchanges) (c .loop-made .made) (c .min-most .result) a b m e) ∙ i .0 in
     let told =
-        isolated (c .args .calls .now) (c .args .exchanges .now) _
-        (world (c .args .ours .now .state) (g .Ours·Memory .marks (c .args .our-memory .now)) (g .Ours·Memory .bytes (c .args .our-memory .now)))
-        (world (c .args .theirs .now .state) (g .Theirs·Memory .marks (c .args .their-memory .now)) (g .Theirs·Memory .bytes (c .args .their-memory .now)))
-        a b _ (c .args .ours .now .sound) (c .args .theirs .now .sound) exact in
+    isolated (c .args .calls .now) (c .args .exchanges .now) _
+    (world (c .args .ours .now .state) (g .Ours·Memory .marks (c .args .our-memory .now)) (g .Ours·Memory .bytes (c .args .our-memory .now)))
+    (world (c .args .theirs .now .state) (g .Theirs·Memory .marks (c .args .their-memory .now)) (g .Theirs·Memory .bytes (c .args .their-memory .now)))
+    a b _ (c .args .ours .now .sound) (c .args .theirs .now .sound) exact in
     record {
       exact = exact;
       isolated = told;
