@@ -1,9 +1,8 @@
 -- A store changes bytes only in a plain frame that its page opens for writing.
-use Rattle.std.proofs.Common.{◌≡◌, ℕ, ◌+◌, ◌/◌, ◌%◌, ◌<◌, Bool, true, false, cond, ◌&&◌, eqb, leb, ◌⊎◌, List, Ok, Err, Result, sym, refl, ap, ◌∙◌, subst, inl, inr, arith}
+use Rattle.std.proofs.Common.{◌≡◌, ℕ, ◌+◌, ◌/◌, ◌%◌, ◌<◌, Bool, true, false, ◌⊎◌, List, Ok, Err, Result, sym, refl, ap, ◌∙◌, inl, inr, arith}
 use Rattle.std.proofs.lemmas.Bool.Decides.{nat_tests}
 use Rattle.memory.specs.declared.Mark.{Mark}
-use Rattle.memory.specs.declared.Mark.TheVariants.{Plain}
-use Rattle.memory.specs.Meaning.{mark_at, put}
+use Rattle.memory.specs.Meaning.{put}
 use Rattle.translation.specs.declared.address.Access.TheVariants.{Store}
 use Rattle.translation.specs.declared.address.Width.{Width}
 use Rattle.translation.specs.declared.address.Width.TheVariants.{Byte, Word}

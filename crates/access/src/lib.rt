@@ -1,4 +1,6 @@
 //! Fetches, loads and stores by logical address. What has passed its checks cannot fail any more.
+#![tactic(auto)]
+
 ghost use Rattle.std.specs.Prelude.{◌≡◌, ◌%◌, ◌≢◌};
 ghost use Rattle.memory.specs.declared.Mark.TheVariants.{Absent, Plain};
 ghost use Rattle.memory.specs.Meaning.{mark_at, put};
@@ -11,8 +13,8 @@ use translation::address::{Access, Width, data_address, fetch_address};
 use translation::event::Event;
 
 fn read_byte<Mem: Memory>(memory: &Mem, at: u16) -> u8
-    requires { mark_at (marks memory.now) at ≢ Absent }
-    ensures { result ≡ bytes memory.now at }
+    requires { mark_at (Mem.marks memory.now) at ≢ Absent }
+    ensures { result ≡ Mem.bytes memory.now at }
 {
     match memory.read(at) {
         Ok(byte) => byte,
@@ -23,17 +25,17 @@ fn read_byte<Mem: Memory>(memory: &Mem, at: u16) -> u8
 /// The word at an even address, low byte first.
 fn read_word<Mem: Memory>(memory: &Mem, at: u16) -> u16
     requires even { at % 2 ≡ 0 }
-    requires there { mark_at (marks memory.now) at ≢ Absent }
-    ensures { result ≡ word_at (bytes memory.now) at }
+    requires there { mark_at (Mem.marks memory.now) at ≢ Absent }
+    ensures { result ≡ word_at (Mem.bytes memory.now) at }
 {
     read_byte(memory, at) as u16 + 256 * read_byte(memory, at + 1) as u16
 }
 
 fn write_byte<Mem: Memory>(memory: &mut Mem, at: u16, byte: u8)
-    requires { mark_at (marks memory.old) at ≡ Plain }
-    ensures bytes { bytes memory.new ≡ put (bytes memory.old) at byte }
-    ensures marks { marks memory.new ≡ marks memory.old }
-    ensures rest { rest memory.new ≡ rest memory.old }
+    requires { mark_at (Mem.marks memory.old) at ≡ Plain }
+    ensures bytes { Mem.bytes memory.new ≡ put (Mem.bytes memory.old) at byte }
+    ensures marks { Mem.marks memory.new ≡ Mem.marks memory.old }
+    ensures rest { Mem.rest memory.new ≡ Mem.rest memory.old }
 {
     let _ = memory.write(at, byte);
 }
@@ -41,10 +43,10 @@ fn write_byte<Mem: Memory>(memory: &mut Mem, at: u16, byte: u8)
 /// Writes a word at an even address, low byte first.
 fn write_word<Mem: Memory>(memory: &mut Mem, at: u16, word: u16)
     requires even { at % 2 ≡ 0 }
-    requires plain { mark_at (marks memory.old) at ≡ Plain }
-    ensures bytes { bytes memory.new ≡ word_put (bytes memory.old) at word }
-    ensures marks { marks memory.new ≡ marks memory.old }
-    ensures rest { rest memory.new ≡ rest memory.old }
+    requires plain { mark_at (Mem.marks memory.old) at ≡ Plain }
+    ensures bytes { Mem.bytes memory.new ≡ word_put (Mem.bytes memory.old) at word }
+    ensures marks { Mem.marks memory.new ≡ Mem.marks memory.old }
+    ensures rest { Mem.rest memory.new ≡ Mem.rest memory.old }
 {
     write_byte(memory, at, (word % 256) as u8);
     write_byte(memory, at + 1, (word / 256) as u8);
@@ -57,7 +59,7 @@ pub fn fetch<Mem: Memory>(
     memory: &Mem,
     address: u16,
 ) -> Result<u16, Event>
-    ensures { result ≡ fetched user table.now.entries (marks memory.now) (bytes memory.now) address }
+    ensures { result ≡ fetched user table.now.entries (Mem.marks memory.now) (Mem.bytes memory.now) address }
 {
     let at = fetch_address(user, table, memory, address)?;
     Ok(read_word(memory, at))
@@ -71,7 +73,7 @@ pub fn load<Mem: Memory>(
     address: u16,
     width: Width,
 ) -> Result<u16, Event>
-    ensures { result ≡ loaded user table.now.entries (marks memory.now) (bytes memory.now) width address }
+    ensures { result ≡ loaded user table.now.entries (Mem.marks memory.now) (Mem.bytes memory.now) width address }
 {
     let at = data_address(user, table, memory, address, Access::Load, width)?;
     match width {
@@ -90,11 +92,11 @@ pub fn store<Mem: Memory>(
     width: Width,
     value: u16,
 ) -> Result<(), Event>
-    ensures answer { result ≡ store_answer user table.now.entries (marks memory.old) width address }
-    ensures bytes { bytes memory.new ≡ stored user table.now.entries (marks memory.old) (bytes memory.old) width address value }
-    ensures marks { marks memory.new ≡ marks memory.old }
-    ensures rest { rest memory.new ≡ rest memory.old }
-    ensures confined { Confined user table.now.entries (marks memory.old) address (bytes memory.old) (bytes memory.new) }
+    ensures answer { result ≡ store_answer user table.now.entries (Mem.marks memory.old) width address }
+    ensures bytes { Mem.bytes memory.new ≡ stored user table.now.entries (Mem.marks memory.old) (Mem.bytes memory.old) width address value }
+    ensures marks { Mem.marks memory.new ≡ Mem.marks memory.old }
+    ensures rest { Mem.rest memory.new ≡ Mem.rest memory.old }
+    ensures confined { Confined user table.now.entries (Mem.marks memory.old) address (Mem.bytes memory.old) (Mem.bytes memory.new) }
 {
     store_value(user, table, memory, address, width, value)
 }
@@ -107,10 +109,10 @@ fn store_value<Mem: Memory>(
     width: Width,
     value: u16,
 ) -> Result<(), Event>
-    ensures answer { result ≡ store_answer user table.now.entries (marks memory.old) width address }
-    ensures bytes { bytes memory.new ≡ stored user table.now.entries (marks memory.old) (bytes memory.old) width address value }
-    ensures marks { marks memory.new ≡ marks memory.old }
-    ensures rest { rest memory.new ≡ rest memory.old }
+    ensures answer { result ≡ store_answer user table.now.entries (Mem.marks memory.old) width address }
+    ensures bytes { Mem.bytes memory.new ≡ stored user table.now.entries (Mem.marks memory.old) (Mem.bytes memory.old) width address value }
+    ensures marks { Mem.marks memory.new ≡ Mem.marks memory.old }
+    ensures rest { Mem.rest memory.new ≡ Mem.rest memory.old }
 {
     let at = data_address(user, table, memory, address, Access::Store, width)?;
     match width {

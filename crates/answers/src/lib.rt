@@ -1,4 +1,6 @@
 //! What the calls answer.
+#![tactic(auto)]
+
 ghost use Rattle.std.specs.Prelude.{◌≡◌};
 ghost use Rattle.answers.specs.Answers.{refusal_number};
 
@@ -52,6 +54,13 @@ pub enum Ending {
     Spent,
 }
 
+/// How many steps a run made, the halting one with them, and how it ended.
+#[derive(Clone, Copy, PartialEq, Eq, Debug)]
+pub struct RunAnswer {
+    pub steps: u32,
+    pub ending: Ending,
+}
+
 /// How a user run ended: with an entry into the system, or with all its steps made.
 #[derive(Clone, Copy, PartialEq, Eq, Debug)]
 pub enum UserEnding {
@@ -59,15 +68,9 @@ pub enum UserEnding {
     Spent,
 }
 
-/// How many steps a run made, the one that ended it with them, and how it ended.
+/// How many steps a user run made, the entering one with them, and how it ended.
 #[derive(Clone, Copy, PartialEq, Eq, Debug)]
-pub struct Run<E> {
+pub struct UserRunAnswer {
     pub steps: u32,
-    pub ending: E,
+    pub ending: UserEnding,
 }
-
-/// What a run answers.
-pub type RunAnswer = Run<Ending>;
-
-/// What a user run answers.
-pub type UserRunAnswer = Run<UserEnding>;

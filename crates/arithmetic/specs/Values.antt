@@ -1,5 +1,5 @@
 -- What the operations on two registers give.
-use Rattle.std.specs.Prelude.{◌≡◌, ℕ, ◌+◌, ◌-◌, ◌*◌, ◌/◌, ◌%◌, ◌^◌, ◌≤◌, Bool, cond, ℤ, pos, negsuc, ◌+ℤ◌, ◌-ℤ◌, ◌*ℤ◌, ◌==◌, bit_and, bit_or, bit_xor, int_le, int_lt, nat_le, nat_lt}
+use Rattle.std.specs.Prelude.{◌≡◌, ℕ, ◌-◌, ◌*◌, ◌%◌, ◌^◌, ◌≤◌, cond, ℤ, pos, ◌+ℤ◌, ◌-ℤ◌, ◌*ℤ◌, ◌==◌, bit_and, bit_or, bit_xor, int_le, int_lt, nat_le, nat_lt}
 use Rattle.std.specs.Int.Signed.{shr_z}
 use Rattle.std.specs.Int.{int_wrap, w16}
 use Rattle.arithmetic.specs.Words.{signed, word_of, flag_of}

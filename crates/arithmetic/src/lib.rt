@@ -1,5 +1,7 @@
 //! The values that register instructions compute: numbers modulo 65,536, and signed numbers where
 //! an instruction is signed.
+#![tactic(auto)]
+
 ghost use Rattle.std.specs.Prelude.{◌≡◌, ◌<◌};
 ghost use Rattle.arithmetic.specs.Words.{byte_extended, complement_of, flag_of, high_byte_set, signed_added, word_of, words_added};
 ghost use Rattle.arithmetic.specs.Values.{SignedLaw, floor_divided, shifted_left, value_of};

@@ -7,8 +7,8 @@ use Rattle.answers.specs.declared.UserEnding.{UserEnding}
 use Rattle.answers.specs.declared.UserEnding.TheVariants as ending
 use Rattle.execution.specs.Worlds.{Outcome, World, outcome, with_state}
 use Rattle.machine.specs.Calls.{drive_answer, driven_at, output_reading, raise_answer, raised_on, register_reading}
-use Rattle.machine.specs.Runs.{user_run_call}
 use Rattle.machine.specs.Steps.{step_call}
+use Rattle.machine.specs.UserRuns.{user_run_call}
 use Rattle.calls.specs.declared.Answer.{Answer}
 use Rattle.calls.specs.declared.Answer.TheVariants.{Stepped, Ran, Done, Value}
 use Rattle.calls.specs.declared.Call.{Call}

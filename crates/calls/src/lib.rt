@@ -1,5 +1,7 @@
 //! The calls that a supervisor makes of a machine while a user program runs, as values that can
 //! be listed, and their answers.
+#![tactic(auto)]
+
 ghost use Rattle.std.specs.Prelude.{◌≡◌};
 ghost use Rattle.execution.specs.Worlds.{outcome, world};
 ghost use Rattle.calls.specs.Calls.{call_of, entry_of};
@@ -41,8 +43,8 @@ pub enum Answer {
 
 /// Makes one call of a machine over a memory.
 pub fn make_call<Mem: Memory>(machine: &mut Machine, memory: &mut Mem, call: Call) -> Answer
-    ensures outcome { outcome (world machine.new.state (marks memory.new) (bytes memory.new)) result ≡ call_of call (world machine.old.state (marks memory.old) (bytes memory.old)) }
-    ensures rest { rest memory.new ≡ rest memory.old }
+    ensures outcome { outcome (world machine.new.state (Mem.marks memory.new) (Mem.bytes memory.new)) result ≡ call_of call (world machine.old.state (Mem.marks memory.old) (Mem.bytes memory.old)) }
+    ensures rest { Mem.rest memory.new ≡ Mem.rest memory.old }
 {
     match call {
         Call::Step => Answer::Stepped(machine.step(memory)),

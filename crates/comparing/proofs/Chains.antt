@@ -1,17 +1,12 @@
 -- A comparison is a chain of calls on each side.
-use Rattle.std.proofs.Common.{◌≡◌, ℕ, suc, ◌+◌, Bool, true, false, cond, ◌||◌, List, [], ◌∷◌, map, take, Option, sym, refl, ap, ◌∙◌, subst, add-one}
-use Rattle.std.specs.Option.{option_or}
-use Rattle.translation.specs.declared.event.Event.{Event}
+use Rattle.std.proofs.Common.{◌≡◌, ℕ, ◌+◌, Bool, true, false, cond, ◌||◌, List, [], ◌∷◌, map, take, sym, refl, ap, subst, add-one}
 use Rattle.execution.specs.Worlds.{Outcome, World, outcome}
 use Rattle.calls.specs.declared.Answer.{Answer}
 use Rattle.calls.specs.declared.Call.{Call}
 use Rattle.calls.specs.Calls.{call_of, enters, entry_of}
 use Rattle.calls.specs.Chains.{Chain, done, next, entry}
-use Rattle.isolation.specs.Law.{entry_in}
-use Rattle.isolation.proofs.Theorem.{alone, no_event}
-use Rattle.comparing.specs.declared.exchange.Comparison.{Comparison}
 use Rattle.comparing.specs.declared.exchange.Exchange.{Exchange}
-use Rattle.comparing.specs.Comparisons.{Compared, compare_of, compared, compared_on, comparison, exchange, one_more}
+use Rattle.comparing.specs.Comparisons.{Compared, compare_of, compared, comparison, exchange, one_more}
 
 -- what one side answered in the slots
 abbrev pub our : Exchange → Answer
@@ -99,30 +94,3 @@ same_entries (c ∷ cs) (e ∷ slots) a b h =
     let rest = cond t (compared x.after y.after slots (comparison 0 (entry_of x.answer) (entry_of y.answer))) o in
     let p = split (exchange x.answer y.answer) rest h in
     same_cond x y slots t o p.0 (same_entries cs slots x.after y.after) p.1
-
--- the entry that is answered is that of the answers in the slots
-abbrev entry_made : Compared → Option Event
-entry_made o = entry_in (map our (take o.answer.calls o.exchanges))
-
-told_more : (e : Exchange) (o : Compared) → o.answer.ours ≡ option_or (entry_of e.ours) (entry_made o) → (one_more e o).answer.ours ≡ entry_made (one_more e o)
-told_more e o h = subst (λ (n : ℕ). o.answer.ours ≡ entry_in (map our (take n (e ∷ o.exchanges)))) (sym (add-one o.answer.calls)) h
-
-told_cond : (x y : Outcome Answer) (slots : List Exchange) (s t : Bool) (o : Compared) → enters x.answer ≡ s → o.answer.ours ≡ entry_made o
-    → let u = cond (s || t) (compared x.after y.after slots (comparison 0 (entry_of x.answer) (entry_of y.answer))) o in
-    u.answer.ours ≡ option_or (entry_of x.answer) (entry_made u)
-told_cond x y slots true t o h others = alone (entry_of x.answer)
-told_cond x y slots false true o h others = alone (entry_of x.answer)
-told_cond x y slots false false o h others =
-    others ∙ ap (λ (z : Option Event). option_or z (entry_made o)) (sym (no_event (entry_of x.answer) h))
-
-pub told : (cs : List Call) (slots : List Exchange) (a b : World) → (compare_of cs slots a b).answer.ours ≡ entry_made (compare_of cs slots a b)
-unfolding compare_of
-told [] slots a b = refl
-told (c ∷ cs) [] a b = refl
-told (c ∷ cs) (e ∷ slots) a b =
-    let x = call_of c a in
-    let y = call_of c b in
-    let o = compare_of cs slots x.after y.after in
-    let rest = cond (enters x.answer || enters y.answer) (compared x.after y.after slots (comparison 0 (entry_of x.answer) (entry_of y.answer))) o in
-    told_more (exchange x.answer y.answer) rest
-    (told_cond x y slots (enters x.answer) (enters y.answer) o refl (told cs slots x.after y.after))

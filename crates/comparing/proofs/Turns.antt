@@ -1,5 +1,5 @@
 -- One turn of a comparison.
-use Rattle.std.proofs.Common.{◌≡◌, ℕ, ◌+◌, ◌<◌, ◌≤◌, min, Bool, true, false, cond, ◌||◌, List, [], ◌∷◌, ◌++◌, length, get_or, take, drop, set, Some, None, Option, sym, refl, ap, ◌∙◌, ⊎_elim, arith}
+use Rattle.std.proofs.Common.{◌≡◌, ℕ, ◌+◌, ◌<◌, ◌≤◌, min, Bool, true, false, cond, ◌||◌, List, [], ◌∷◌, ◌++◌, length, get_or, take, drop, set, None, Option, sym, refl, ap, ◌∙◌, ⊎_elim, arith}
 use Rattle.std.proofs.lemmas.List.{append_assoc, drop_all, drop_more, drop-set-lt, take-append-drop, take_more_set}
 use Rattle.std.proofs.lemmas.Bool.{cases_lt, cond-false, cond-true}
 use Rattle.translation.specs.declared.event.Event.{Event}
@@ -7,9 +7,8 @@ use Rattle.execution.specs.Worlds.{Outcome, World, outcome}
 use Rattle.calls.specs.declared.Answer.{Answer}
 use Rattle.calls.specs.declared.Call.{Call}
 use Rattle.calls.specs.Calls.{call_of, enters, entry_of, is_event}
-use Rattle.comparing.specs.declared.exchange.Comparison.{Comparison}
 use Rattle.comparing.specs.declared.exchange.Exchange.{Exchange}
-use Rattle.comparing.specs.Comparisons.{Compared, compare_of, compared, compared_on, comparison, exchange, one_more}
+use Rattle.comparing.specs.Comparisons.{Compared, compare_of, compared, compared_on, comparison, one_more}
 
 -- a comparison, after so many calls whose answers are in the slots before it
 abbrev pub after : ℕ → List Exchange → Compared → Compared

@@ -1,5 +1,5 @@
 -- Two machines that are given the same calls.
-use Rattle.std.specs.Prelude.{ℕ, ◌+◌, Bool, cond, ◌||◌, List, [], ◌∷◌, Some, None, Option}
+use Rattle.std.specs.Prelude.{ℕ, ◌+◌, cond, ◌||◌, List, [], ◌∷◌, None, Option}
 use Rattle.translation.specs.declared.event.Event.{Event}
 use Rattle.execution.specs.Worlds.{Outcome, World}
 use Rattle.calls.specs.declared.Answer.{Answer}

@@ -4,7 +4,7 @@ use Rattle.state.specs.Status.{is_user}
 use Rattle.execution.specs.Worlds.{World}
 use Rattle.calls.specs.declared.Answer.{Answer}
 use Rattle.isolation.specs.Share.{Agree}
-use Rattle.isolation.specs.Law.{Alike, entry_in}
+use Rattle.isolation.specs.Law.{Alike}
 use Rattle.comparing.specs.declared.exchange.Comparison.{Comparison}
 use Rattle.comparing.specs.declared.exchange.Exchange.{Exchange}
 
@@ -15,12 +15,10 @@ our_answers r slots = map (λ (e : Exchange). e.ours) (take r.calls slots)
 abbrev pub their_answers : Comparison → List Exchange → List Answer
 their_answers r slots = map (λ (e : Exchange). e.theirs) (take r.calls slots)
 
--- The machines cannot be told apart by their answers, nor by whether and with which event they entered the system; and the
--- event that is answered is the one of the answers in the slots.
+-- The machines cannot be told apart by their answers, nor by whether and with which event they entered the system.
 pub record Indistinct (ours theirs ours' theirs' : World) (slots : List Exchange) (r : Comparison) : Type 0 where
   pub alike : Alike ours theirs ours' theirs' (our_answers r slots) (their_answers r slots)
   pub entries : r.ours ≡ r.theirs
-  pub told : r.ours ≡ entry_in (our_answers r slots)
 
 -- So it is if both were in user mode and agreed on the user's share.
 abbrev pub Isolated : World → World → World → World → List Exchange → Comparison → Type 0

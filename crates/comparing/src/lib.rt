@@ -1,5 +1,7 @@
 //! Two machines over two memories that are given the same calls, with both sides' answers told
 //! call by call.
+#![tactic(auto)]
+
 pub mod exchange;
 
 ghost use Rattle.std.specs.Prelude.{◌≡◌};

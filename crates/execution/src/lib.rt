@@ -1,4 +1,6 @@
 //! What an instruction does to a machine and its memory, by a match over the instructions.
+#![tactic(auto)]
+
 mod transfers;
 
 ghost use Rattle.std.specs.Prelude.{◌≡◌};
@@ -27,8 +29,8 @@ pub fn execute<Mem: Memory>(
     memory: &mut Mem,
     instruction: &Instruction,
 ) -> Result<Progress, Raised>
-    ensures outcome { outcome (world state.new (marks memory.new) (bytes memory.new)) result ≡ executed instruction.now (world state.old (marks memory.old) (bytes memory.old)) }
-    ensures rest { rest memory.new ≡ rest memory.old }
+    ensures outcome { outcome (world state.new (Mem.marks memory.new) (Mem.bytes memory.new)) result ≡ executed instruction.now (world state.old (Mem.marks memory.old) (Mem.bytes memory.old)) }
+    ensures rest { Mem.rest memory.new ≡ Mem.rest memory.old }
 {
     match *instruction {
         Instruction::Operate { operation, d, a, b } => state.operate(operation, d, a, b),

@@ -30,7 +30,7 @@ pub(crate) fn load_into<Mem: Memory>(
     address: u16,
     width: Width,
 ) -> Result<Progress, Raised>
-    ensures { outcome (world state.new (marks memory.now) (bytes memory.now)) result ≡ loaded_into d width address (world state.old (marks memory.now) (bytes memory.now)) }
+    ensures { outcome (world state.new (Mem.marks memory.now) (Mem.bytes memory.now)) result ≡ loaded_into d width address (world state.old (Mem.marks memory.now) (Mem.bytes memory.now)) }
 {
     match load(
         state.system.is_user(),
@@ -58,8 +58,8 @@ pub(crate) fn store_from<Mem: Memory>(
     address: u16,
     width: Width,
 ) -> Result<Progress, Raised>
-    ensures outcome { outcome (world state.now (marks memory.new) (bytes memory.new)) result ≡ stored_from b width address (world state.now (marks memory.old) (bytes memory.old)) }
-    ensures rest { rest memory.new ≡ rest memory.old }
+    ensures outcome { outcome (world state.now (Mem.marks memory.new) (Mem.bytes memory.new)) result ≡ stored_from b width address (world state.now (Mem.marks memory.old) (Mem.bytes memory.old)) }
+    ensures rest { Mem.rest memory.new ≡ Mem.rest memory.old }
 {
     let value = state.register(b);
     match store(

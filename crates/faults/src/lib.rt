@@ -1,4 +1,6 @@
 //! Why a block, a closing sum or a whole file is refused, and how one fault becomes another.
+#![tactic(auto)]
+
 pub mod convert;
 
 ghost use Rattle.std.specs.Prelude.{◌≡◌};

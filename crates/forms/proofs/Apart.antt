@@ -1,5 +1,5 @@
 -- No word belongs to two rows: any two rows differ in a bit that both fix. The test of that is computed over the table.
-use Rattle.std.proofs.Common.{◌≡◌, ℕ, zero, suc, ◌<◌, Bool, true, false, not, ◌&&◌, T, eqb, List, [], ◌∷◌, length, get_or, sym, refl, ap, ◌∙◌, subst, le_of_suc-le-suc, not-suc-le-zero, eq-eqb, eqb-true}
+use Rattle.std.proofs.Common.{◌≡◌, ℕ, zero, suc, ◌<◌, Bool, true, not, ◌&&◌, T, eqb, List, [], ◌∷◌, length, get_or, sym, refl, ap, ◌∙◌, subst, le_of_suc-le-suc, not-suc-le-zero, eq-eqb, eqb-true}
 use lib.Bits.{bit_and}
 use Rattle.search.proofs.Rules.{all, and_left, and_right}
 use Rattle.forms.specs.declared.FormRow.{FormRow}

@@ -1,6 +1,6 @@
 -- How many words have a form: counted over the sixteen blocks of words with the same upper four bits, at the few rows that
 -- such words can belong to.
-use Rattle.std.proofs.Common.{◌≡◌, ℕ, zero, suc, ◌+◌, ◌*◌, ◌/◌, ◌%◌, ◌^◌, ◌<◌, ◌≤◌, Bool, true, false, cond, ◌&&◌, T, eqb, ◌⊎◌, List, [], ◌∷◌, is_some, Some, Option, sym, refl, ap, ◌∙◌, subst, inl, inr, arith, eqb→eq, eq-eqb, eqb-true}
+use Rattle.std.proofs.Common.{◌≡◌, ℕ, zero, suc, ◌+◌, ◌*◌, ◌/◌, ◌%◌, ◌^◌, ◌<◌, ◌≤◌, Bool, true, false, cond, T, eqb, List, [], ◌∷◌, is_some, Some, Option, sym, refl, ap, ◌∙◌, subst, arith, eqb→eq, eq-eqb, eqb-true}
 use borrow.Author.Tests.{clash}
 use lib.Bits.{bit_and, and_shr, and_mask}
 use Rattle.search.specs.First.{first_match}

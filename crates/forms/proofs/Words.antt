@@ -1,6 +1,6 @@
 -- A test of every word, computed block by block: the block q of width k has the 2 ^ k numbers that are q above their
 -- lowest k bits.
-use Rattle.std.proofs.Common.{◌≡◌, ℕ, zero, suc, ◌+◌, ◌*◌, ◌/◌, ◌%◌, ◌^◌, Bool, cond, ◌&&◌, T, ◌⊎◌, sym, refl, ap, ◌∙◌, subst, ap₂, inl, inr, ⊎_elim, add_assoc, mul_assoc, mul_comm, pow-suc, arith}
+use Rattle.std.proofs.Common.{◌≡◌, ℕ, zero, suc, ◌+◌, ◌*◌, ◌/◌, ◌%◌, ◌^◌, Bool, cond, ◌&&◌, T, ◌⊎◌, sym, refl, ap, ◌∙◌, subst, ap₂, inl, inr, ⊎_elim, add_assoc, mul_assoc, pow-suc, arith}
 use Rattle.std.proofs.lemmas.Nat.{shr-shr}
 use Rattle.search.proofs.Rules.{and_left, and_right}
 use Rattle.forms.specs.Table.{count_below}

@@ -28,6 +28,7 @@ form_rows =
     row "0000dddaaa000bbb" form.And
     ∷ row "0000dddaaa001bbb" form.Or
     ∷ row "0000dddaaa010bbb" form.Xor
+    ∷ row "0000dddaaa011000" form.Not
     ∷ row "0000dddaaa100bbb" form.Add
     ∷ row "0000dddaaa101bbb" form.Sub
     ∷ row "0000dddaaa110bbb" form.Sha
@@ -37,9 +38,12 @@ form_rows =
     ∷ row "0001dddaaa011bbb" form.Cmpeq
     ∷ row "0001dddaaa100bbb" form.Cmpltu
     ∷ row "0001dddaaa101bbb" form.Cmpleu
-    ∷ row "1000dddaaa000bbb" form.Mul
-    ∷ row "1000dddaaa001bbb" form.Mulh
-    ∷ row "1000dddaaa010bbb" form.Mulhu
+    ∷ row "0010dddaaa0nnnnn" form.Addi
+    ∷ row "0010bbbaaa100000" form.Jz
+    ∷ row "0010bbbaaa100001" form.Jnz
+    ∷ row "0010000aaa100011" form.Jmp
+    ∷ row "0010bbbaaa100100" form.Jal
+    ∷ row "0010000aaa100111" form.Calls
     ∷ row "0011dddaaannnnnn" form.Ld
     ∷ row "1101dddaaannnnnn" form.Ldb
     ∷ row "0100bbbaaannnnnn" form.St
@@ -50,24 +54,20 @@ form_rows =
     ∷ row "0110bbb1nnnnnnnn" form.Bnz
     ∷ row "0111ddd0nnnnnnnn" form.In
     ∷ row "0111bbb1nnnnnnnn" form.Out
-    ∷ row "0010dddaaa0nnnnn" form.Addi
-    ∷ row "0000dddaaa011000" form.Not
-    ∷ row "0010bbbaaa100000" form.Jz
-    ∷ row "0010bbbaaa100001" form.Jnz
-    ∷ row "0010bbbaaa100100" form.Jal
+    ∷ row "1000dddaaa000bbb" form.Mul
+    ∷ row "1000dddaaa001bbb" form.Mulh
+    ∷ row "1000dddaaa010bbb" form.Mulhu
+    ∷ row "1111000000100000" form.Ei
+    ∷ row "1111000000100001" form.Di
+    ∷ row "1111000000100100" form.Reti
+    ∷ row "1111ddd000101000" form.Getiid
     ∷ row "1111dddaaa101100" form.Rds
     ∷ row "1111dddaaa110000" form.Wrs
     ∷ row "1111bbbaaa110100" form.Wrpi
     ∷ row "1111bbbaaa110101" form.Wrvi
     ∷ row "1111bbbaaa110110" form.Wrpd
     ∷ row "1111bbbaaa110111" form.Wrvd
-    ∷ row "0010000aaa100011" form.Jmp
-    ∷ row "0010000aaa100111" form.Calls
     ∷ row "1111000aaa111000" form.Flush
-    ∷ row "1111ddd000101000" form.Getiid
-    ∷ row "1111000000100000" form.Ei
-    ∷ row "1111000000100001" form.Di
-    ∷ row "1111000000100100" form.Reti
     ∷ row "1111111111111111" form.Halt
     ∷ []
 
@@ -84,46 +84,46 @@ abbrev pub form_number : Form → ℕ
 form_number form.And = 0
 form_number form.Or = 1
 form_number form.Xor = 2
-form_number form.Add = 3
-form_number form.Sub = 4
-form_number form.Sha = 5
-form_number form.Shl = 6
-form_number form.Cmplt = 7
-form_number form.Cmple = 8
-form_number form.Cmpeq = 9
-form_number form.Cmpltu = 10
-form_number form.Cmpleu = 11
-form_number form.Mul = 12
-form_number form.Mulh = 13
-form_number form.Mulhu = 14
-form_number form.Ld = 15
-form_number form.Ldb = 16
-form_number form.St = 17
-form_number form.Stb = 18
-form_number form.Movi = 19
-form_number form.Movih = 20
-form_number form.Bz = 21
-form_number form.Bnz = 22
-form_number form.In = 23
-form_number form.Out = 24
-form_number form.Addi = 25
-form_number form.Not = 26
-form_number form.Jz = 27
-form_number form.Jnz = 28
-form_number form.Jal = 29
-form_number form.Rds = 30
-form_number form.Wrs = 31
-form_number form.Wrpi = 32
-form_number form.Wrvi = 33
-form_number form.Wrpd = 34
-form_number form.Wrvd = 35
-form_number form.Jmp = 36
-form_number form.Calls = 37
-form_number form.Flush = 38
-form_number form.Getiid = 39
-form_number form.Ei = 40
-form_number form.Di = 41
-form_number form.Reti = 42
+form_number form.Not = 3
+form_number form.Add = 4
+form_number form.Sub = 5
+form_number form.Sha = 6
+form_number form.Shl = 7
+form_number form.Cmplt = 8
+form_number form.Cmple = 9
+form_number form.Cmpeq = 10
+form_number form.Cmpltu = 11
+form_number form.Cmpleu = 12
+form_number form.Addi = 13
+form_number form.Jz = 14
+form_number form.Jnz = 15
+form_number form.Jmp = 16
+form_number form.Jal = 17
+form_number form.Calls = 18
+form_number form.Ld = 19
+form_number form.Ldb = 20
+form_number form.St = 21
+form_number form.Stb = 22
+form_number form.Movi = 23
+form_number form.Movih = 24
+form_number form.Bz = 25
+form_number form.Bnz = 26
+form_number form.In = 27
+form_number form.Out = 28
+form_number form.Mul = 29
+form_number form.Mulh = 30
+form_number form.Mulhu = 31
+form_number form.Ei = 32
+form_number form.Di = 33
+form_number form.Reti = 34
+form_number form.Getiid = 35
+form_number form.Rds = 36
+form_number form.Wrs = 37
+form_number form.Wrpi = 38
+form_number form.Wrvi = 39
+form_number form.Wrpd = 40
+form_number form.Wrvd = 41
+form_number form.Flush = 42
 form_number form.Halt = 43
 
 -- the row of a form

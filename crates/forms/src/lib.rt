@@ -1,4 +1,6 @@
 //! The 44 forms of instruction words: one constant table, and the search for a word's form.
+#![tactic(auto)]
+
 ghost use Rattle.std.specs.Prelude.{◌≡◌, ◌<◌};
 ghost use Rattle.forms.specs.Table.{form_rows, belongs, form_of, form_number, row_of, Disjoint, legal_words};
 
@@ -10,6 +12,7 @@ pub enum Form {
     And,
     Or,
     Xor,
+    Not,
     Add,
     Sub,
     Sha,
@@ -19,9 +22,12 @@ pub enum Form {
     Cmpeq,
     Cmpltu,
     Cmpleu,
-    Mul,
-    Mulh,
-    Mulhu,
+    Addi,
+    Jz,
+    Jnz,
+    Jmp,
+    Jal,
+    Calls,
     Ld,
     Ldb,
     St,
@@ -32,24 +38,20 @@ pub enum Form {
     Bnz,
     In,
     Out,
-    Addi,
-    Not,
-    Jz,
-    Jnz,
-    Jal,
+    Mul,
+    Mulh,
+    Mulhu,
+    Ei,
+    Di,
+    Reti,
+    Getiid,
     Rds,
     Wrs,
     Wrpi,
     Wrvi,
     Wrpd,
     Wrvd,
-    Jmp,
-    Calls,
     Flush,
-    Getiid,
-    Ei,
-    Di,
-    Reti,
     Halt,
 }
 
@@ -71,7 +73,6 @@ impl Entry for FormRow {
     }
 }
 
-/// Rows with the same mask stand together: a search then compares the same bits many times over.
 const FORMS: [FormRow; 44] = [
     FormRow {
         mask: 0b1111_000_000_111_000,
@@ -87,6 +88,11 @@ const FORMS: [FormRow; 44] = [
         mask: 0b1111_000_000_111_000,
         value: 0b0000_000_000_010_000,
         form: Form::Xor,
+    },
+    FormRow {
+        mask: 0b1111_000_000_111111,
+        value: 0b0000_000_000_011000,
+        form: Form::Not,
     },
     FormRow {
         mask: 0b1111_000_000_111_000,
@@ -134,19 +140,34 @@ const FORMS: [FormRow; 44] = [
         form: Form::Cmpleu,
     },
     FormRow {
-        mask: 0b1111_000_000_111_000,
-        value: 0b1000_000_000_000_000,
-        form: Form::Mul,
+        mask: 0b1111_000_000_1_00000,
+        value: 0b0010_000_000_0_00000,
+        form: Form::Addi,
     },
     FormRow {
-        mask: 0b1111_000_000_111_000,
-        value: 0b1000_000_000_001_000,
-        form: Form::Mulh,
+        mask: 0b1111_000_000_111111,
+        value: 0b0010_000_000_100000,
+        form: Form::Jz,
     },
     FormRow {
-        mask: 0b1111_000_000_111_000,
-        value: 0b1000_000_000_010_000,
-        form: Form::Mulhu,
+        mask: 0b1111_000_000_111111,
+        value: 0b0010_000_000_100001,
+        form: Form::Jnz,
+    },
+    FormRow {
+        mask: 0b1111_111_000_111111,
+        value: 0b0010_000_000_100011,
+        form: Form::Jmp,
+    },
+    FormRow {
+        mask: 0b1111_000_000_111111,
+        value: 0b0010_000_000_100100,
+        form: Form::Jal,
+    },
+    FormRow {
+        mask: 0b1111_111_000_111111,
+        value: 0b0010_000_000_100111,
+        form: Form::Calls,
     },
     FormRow {
         mask: 0b1111_000_000_000000,
@@ -199,29 +220,39 @@ const FORMS: [FormRow; 44] = [
         form: Form::Out,
     },
     FormRow {
-        mask: 0b1111_000_000_1_00000,
-        value: 0b0010_000_000_0_00000,
-        form: Form::Addi,
+        mask: 0b1111_000_000_111_000,
+        value: 0b1000_000_000_000_000,
+        form: Form::Mul,
     },
     FormRow {
-        mask: 0b1111_000_000_111111,
-        value: 0b0000_000_000_011000,
-        form: Form::Not,
+        mask: 0b1111_000_000_111_000,
+        value: 0b1000_000_000_001_000,
+        form: Form::Mulh,
     },
     FormRow {
-        mask: 0b1111_000_000_111111,
-        value: 0b0010_000_000_100000,
-        form: Form::Jz,
+        mask: 0b1111_000_000_111_000,
+        value: 0b1000_000_000_010_000,
+        form: Form::Mulhu,
     },
     FormRow {
-        mask: 0b1111_000_000_111111,
-        value: 0b0010_000_000_100001,
-        form: Form::Jnz,
+        mask: 0b1111_111111111111,
+        value: 0b1111_000000100000,
+        form: Form::Ei,
     },
     FormRow {
-        mask: 0b1111_000_000_111111,
-        value: 0b0010_000_000_100100,
-        form: Form::Jal,
+        mask: 0b1111_111111111111,
+        value: 0b1111_000000100001,
+        form: Form::Di,
+    },
+    FormRow {
+        mask: 0b1111_111111111111,
+        value: 0b1111_000000100100,
+        form: Form::Reti,
+    },
+    FormRow {
+        mask: 0b1111_000_111111111,
+        value: 0b1111_000_000101000,
+        form: Form::Getiid,
     },
     FormRow {
         mask: 0b1111_000_000_111111,
@@ -255,38 +286,8 @@ const FORMS: [FormRow; 44] = [
     },
     FormRow {
         mask: 0b1111_111_000_111111,
-        value: 0b0010_000_000_100011,
-        form: Form::Jmp,
-    },
-    FormRow {
-        mask: 0b1111_111_000_111111,
-        value: 0b0010_000_000_100111,
-        form: Form::Calls,
-    },
-    FormRow {
-        mask: 0b1111_111_000_111111,
         value: 0b1111_000_000_111000,
         form: Form::Flush,
-    },
-    FormRow {
-        mask: 0b1111_000_111111111,
-        value: 0b1111_000_000101000,
-        form: Form::Getiid,
-    },
-    FormRow {
-        mask: 0b1111_111111111111,
-        value: 0b1111_000000100000,
-        form: Form::Ei,
-    },
-    FormRow {
-        mask: 0b1111_111111111111,
-        value: 0b1111_000000100001,
-        form: Form::Di,
-    },
-    FormRow {
-        mask: 0b1111_111111111111,
-        value: 0b1111_000000100100,
-        form: Form::Reti,
     },
     FormRow {
         mask: 0b1111_111111111111,

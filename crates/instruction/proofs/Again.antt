@@ -1,5 +1,5 @@
 -- What a word says, said again, is that word: computed row by row.
-use Rattle.std.proofs.Common.{◌≡◌, ℕ, ◌<◌, Bool, T, eqb, Some, None, Option, sym, refl, ap, subst, eqb→eq}
+use Rattle.std.proofs.Common.{◌≡◌, ℕ, ◌<◌, Bool, T, eqb, Some, None, Option, refl, eqb→eq}
 use Rattle.std.specs.Option.{option_map}
 use Rattle.search.proofs.Rules.{all}
 use Rattle.forms.specs.declared.FormRow.{FormRow}

@@ -9,7 +9,6 @@ use Rattle.forms.specs.declared.Form.TheVariants as form
 use Rattle.forms.specs.declared.FormRow.{FormRow}
 use Rattle.forms.specs.Table.{form_of}
 use Rattle.instruction.specs.declared.Register.{Register}
-use Rattle.instruction.specs.declared.SystemRegister.{SystemRegister}
 use Rattle.instruction.specs.declared.Port.{Port}
 use Rattle.instruction.specs.declared.Instruction.{Instruction}
 use Rattle.instruction.specs.declared.Instruction.TheVariants as instruction

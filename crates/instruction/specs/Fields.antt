@@ -1,5 +1,5 @@
 -- What the fields of a word stand for.
-use Rattle.std.specs.Prelude.{ℕ, suc, ◌-◌, ◌*◌, cond, List, [], ◌∷◌, ℤ, pos, negsuc, nat_lt, slice_index_or}
+use Rattle.std.specs.Prelude.{ℕ, suc, ◌-◌, ◌*◌, cond, [], ◌∷◌, ℤ, pos, negsuc, nat_lt, slice_index_or}
 use Rattle.instruction.specs.declared.Register.{Register}
 use Rattle.instruction.specs.declared.Register.TheVariants.{R0, R1, R2, R3, R4, R5, R6, R7}
 use Rattle.instruction.specs.declared.SystemRegister.{SystemRegister}

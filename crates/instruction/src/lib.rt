@@ -1,4 +1,6 @@
 //! What an instruction word says, as a value, and the word that says it.
+#![tactic(auto)]
+
 mod decoding;
 mod encoding;
 mod fields;

@@ -1,5 +1,5 @@
 -- Two machines in user mode that agree, with the same changes of what the user may change.
-use Rattle.std.proofs.Common.{◌≡◌, ℕ, ◌/◌, ◌%◌, ◌<◌, Bool, true, false, eqb, ltb, List, sym, refl, ap, ◌∙◌, subst, inl, inr, arith}
+use Rattle.std.proofs.Common.{◌≡◌, ℕ, ◌%◌, ◌<◌, Bool, true, false, ltb, List, sym, refl, ap, ◌∙◌, subst, inl, inr, arith}
 use Rattle.std.proofs.lemmas.Bool.{and_parts, eqb-true, ltb-true}
 use Rattle.std.proofs.lemmas.Bool.Decides.{nat_tests}
 use Rattle.state.specs.declared.Ports.{Ports}
@@ -8,7 +8,7 @@ use Rattle.machine.specs.Sound.{halt_sound, sound, system_sound, tables_sound}
 use Rattle.state.specs.States.{with_pc, with_ports, with_registers, with_waiting}
 use Rattle.state.specs.Status.{interrupts_on, is_user}
 use Rattle.execution.specs.Worlds.{World, with_state}
-use Rattle.isolation.specs.Share.{Agree, AgreeButPc}
+use Rattle.isolation.specs.Share.{Agree}
 use Rattle.isolation.specs.Law.{Kept}
 use Rattle.isolation.proofs.Translation.{Shown}
 

@@ -1,38 +1,49 @@
 -- What two machines that agree come to, by an entry or without one, and one such stretch after another.
-use Rattle.std.proofs.Common.{◌≡◌, ℕ, ◌/◌, true, not, List, Some, None, Option, sym, refl, ap, ◌∙◌, subst, arith}
+use Rattle.std.proofs.Common.{◌≡◌, ℕ, ◌/◌, Bool, true, false, sym, refl, ap, ◌∙◌, subst}
+use Rattle.std.proofs.lemmas.Bool.{true≢false}
 use Rattle.translation.specs.declared.event.Event.{Event}
 use Rattle.state.specs.declared.SystemRegisters.{SystemRegisters}
 use Rattle.state.specs.declared.Tables.{Tables}
 use Rattle.state.specs.Status.{is_user}
-use Rattle.machine.proofs.Leaving.{entered_only}
 use Rattle.state.specs.Entries.{entered}
 use Rattle.execution.specs.Worlds.{Outcome, World, with_state}
-use Rattle.calls.specs.declared.Answer.{Answer}
-use Rattle.calls.specs.Calls.{is_event}
 use Rattle.isolation.specs.Share.{Agree, AgreeButPc, OpenForWriting}
-use Rattle.isolation.specs.Law.{Alike, EntryFor, HaveEntered, Kept, StillUser, entry_in}
+use Rattle.isolation.specs.Law.{Alike, EntryOnly, HaveEntered, Kept, StillUser}
 use Rattle.isolation.proofs.Agreeing.{Running, Stands}
 
--- where they are, by the event for which they have entered the system, if they have
-abbrev pub Came : Option Event → World → World → World → World → Type 0
-Came None a b a' b' = StillUser a b a' b'
-Came (Some e) a b a' b' = HaveEntered e a b a' b'
+-- where they are, by whether they have entered the system
+abbrev pub Came : Bool → World → World → World → World → Type 0
+Came false a b a' b' = StillUser a b a' b'
+Came true a b a' b' = HaveEntered a b a' b'
 
-pub record Both (t : Option Event) (a b a' b' : World) : Type 0 where
+pub record Both (t : Bool) (a b a' b' : World) : Type 0 where
   pub came : Came t a b a' b'
   pub ours : Kept a a'
   pub theirs : Kept b b'
 
-pub ran_both : (a b a' b' : World) → Agree a' b' → Stands a a' → Stands b b' → Both None a b a' b'
+pub ran_both : (a b a' b' : World) → Agree a' b' → Stands a a' → Stands b b' → Both false a b a' b'
 ran_both a b a' b' g s t =
     record { came = record { agree = g; our_system = s.system; their_system = t.system }; ours = s.kept; theirs = t.kept }
 
--- what an entry leaves, of one machine
+-- an entry, of one machine
 abbrev pub entered_by : Event → ℕ → World → World
 entered_by e detail w = with_state (entered e detail w.state) w
 
-entry_for : (e : Event) (detail : ℕ) (w : World) → EntryFor e w (entered_by e detail w)
-entry_for e detail w = record { only = entered_only e detail w; saved_status = refl; return_address = refl; event = refl }
+entry_only : (e : Event) (detail : ℕ) (w : World) → EntryOnly w (entered_by e detail w)
+entry_only e detail w = record {
+  registers = refl;
+  ports = refl;
+  waiting = refl;
+  tables = refl;
+  halted = refl;
+  marks = refl;
+  bytes = refl;
+  scratch = refl;
+  entry_address = refl;
+  stack_pointer = refl;
+  status = refl;
+  pc = refl;
+}
 
 -- and of two
 entered_agree : (p q : World) (e : Event) (d d' : ℕ) → Agree p q → AgreeButPc (entered_by e d p) (entered_by e d' q)
@@ -51,7 +62,7 @@ entered_agree p q e d d' g = record {
 entered_kept : (w p : World) (e : Event) (d : ℕ) → Kept w p → Kept w (entered_by e d p)
 entered_kept w p e d k = record { tables = k.tables; halted = k.halted; marks = k.marks; bytes = k.bytes }
 
-pub entering_both : (a b p q : World) (e : Event) (d d' : ℕ) → p.state.system.status ≡ q.state.system.status → Agree p q → Stands a p → Stands b q → d ≡ d' → Both (Some e) a b (entered_by e d p) (entered_by e d' q)
+pub entering_both : (a b p q : World) (e : Event) (d d' : ℕ) → p.state.system.status ≡ q.state.system.status → Agree p q → Stands a p → Stands b q → d ≡ d' → Both true a b (entered_by e d p) (entered_by e d' q)
 entering_both a b p q e d d' status g s t same =
     record {
       came = record {
@@ -60,8 +71,8 @@ entering_both a b p q e d d' status g s t same =
         agreed = g;
         our_system = s.system;
         their_system = t.system;
-        our_entry = entry_for e d p;
-        their_entry = entry_for e d' q;
+        our_entry = entry_only e d p;
+        their_entry = entry_only e d' q;
         saved_status = status;
         return_address = g.pc;
         event = refl;
@@ -82,10 +93,10 @@ kept_after w p v k l =
       bytes = λ x shut. l.bytes x (λ h. shut (subst (λ (t : Tables). OpenForWriting t (x / 1024)) k.tables h)) ∙ k.bytes x shut;
     }
 
-came_after : (t : Option Event) (a b p q a' b' : World) → StillUser a b p q → Came t p q a' b' → Came t a b a' b'
-came_after None a b p q a' b' s c =
+came_after : (t : Bool) (a b p q a' b' : World) → StillUser a b p q → Came t p q a' b' → Came t a b a' b'
+came_after false a b p q a' b' s c =
     record { agree = c.agree; our_system = c.our_system ∙ s.our_system; their_system = c.their_system ∙ s.their_system }
-came_after (Some e) a b p q a' b' s c =
+came_after true a b p q a' b' s c =
     record {
       our_last = c.our_last;
       their_last = c.their_last;
@@ -101,7 +112,7 @@ came_after (Some e) a b p q a' b' s c =
       agree = c.agree;
     }
 
-pub both_after : (t : Option Event) (a b p q a' b' : World) → Both None a b p q → Both t p q a' b' → Both t a b a' b'
+pub both_after : (t : Bool) (a b p q a' b' : World) → Both false a b p q → Both t p q a' b' → Both t a b a' b'
 both_after t a b p q a' b' x y =
     record {
       came = came_after t a b p q a' b' x.came y.came;
@@ -109,54 +120,46 @@ both_after t a b p q a' b' x y =
       theirs = kept_after b q b' x.theirs y.theirs;
     }
 
--- two outcomes answer the same and come to the same, by the entry that the answer tells of
-pub record Paired {T : Type 0} (entry : T → Option Event) (a b : World) (x y : Outcome T) : Type 0 where
+-- two outcomes answer the same and come to the same, by whether the answer tells of an entry
+pub record Paired {T : Type 0} (entry : T → Bool) (a b : World) (x y : Outcome T) : Type 0 where
   pub answer : x.answer ≡ y.answer
   pub both : Both (entry x.answer) a b x.after y.after
 
-pub paired_after : {T : Type 0} (entry : T → Option Event) (a b p q : World) (x y : Outcome T) → Both None a b p q → Paired entry p q x y → Paired entry a b x y
+pub paired_after : {T : Type 0} (entry : T → Bool) (a b p q : World) (x y : Outcome T) → Both false a b p q → Paired entry p q x y → Paired entry a b x y
 paired_after entry a b p q x y first later =
     record { answer = later.answer; both = both_after (entry x.answer) a b p q x.after y.after first later.both }
 
 -- two machines that are still in user mode run on
-pub still_ours : (a b p q : World) → Both None a b p q → Stands a p
+pub still_ours : (a b p q : World) → Both false a b p q → Stands a p
 still_ours a b p q x = record { system = x.came.our_system; kept = x.ours }
 
-pub still_theirs : (a b p q : World) → Both None a b p q → Stands b q
+pub still_theirs : (a b p q : World) → Both false a b p q → Stands b q
 still_theirs a b p q x = record { system = x.came.their_system; kept = x.theirs }
 
 -- the mode at the end tells whether they have entered the system
 user_status : (s t : SystemRegisters) → s ≡ t → is_user t.status ≡ true → is_user s.status ≡ true
 user_status s t e u = ap (λ (y : SystemRegisters). is_user y.status) e ∙ u
 
-none_some : {P : Type 0} (e : Event) → None ≡ Some e → P
-none_some e h = absurd (let z : ◌≡◌ {A = ℕ} 0 1 = cc in omega arith)
-
-same_event : (d e : Event) → Some d ≡ Some e → d ≡ e
-same_event d e h = cc
-
-module _ (a b a' b' : World) (r q : List Answer) (u : Running a) (v : Running b) (e : r ≡ q) where
-  came_alike : (t : Option Event) → entry_in r ≡ t → Both t a b a' b' → Alike a b a' b' r q
-  came_alike None h x =
-      record {
-        answers = e;
-        our_mode = user_status _ _ x.came.our_system u.user ∙ sym (ap (λ (o : Option Event). not (is_event o)) h);
-        their_mode = user_status _ _ x.came.their_system v.user ∙ sym (ap (λ (o : Option Event). not (is_event o)) (sym (ap entry_in e) ∙ h));
-        user = λ _. x.came;
-        entered = λ d k. none_some d (sym h ∙ k);
-        our_kept = x.ours;
-        their_kept = x.theirs;
-      }
-  came_alike (Some d) h x =
-      record {
-        answers = e;
-        our_mode = ap is_user x.came.our_entry.only.status ∙ sym (ap (λ (o : Option Event). not (is_event o)) h);
-        their_mode = ap is_user x.came.their_entry.only.status ∙ sym (ap (λ (o : Option Event). not (is_event o)) (sym (ap entry_in e) ∙ h));
-        user = λ k. none_some d (sym k ∙ h);
-        entered = λ f k. subst (λ (c : Event). HaveEntered c a b a' b') (same_event d f (sym h ∙ k)) x.came;
-        our_kept = x.ours;
-        their_kept = x.theirs;
-      }
-
-  pub both_alike : Both (entry_in r) a b a' b' → Alike a b a' b' r q
-  both_alike x = came_alike (entry_in r) refl x
+pub both_alike : {T : Type 0} (t : Bool) (a b a' b' : World) (r q : T) → Running a → Running b → r ≡ q → Both t a b a' b' → Alike a b a' b' r q
+both_alike false a b a' b' r q u v e x =
+    let ours : is_user a'.state.system.status ≡ true = user_status _ _ x.came.our_system u.user in
+    let theirs : is_user b'.state.system.status ≡ true = user_status _ _ x.came.their_system v.user in
+    record {
+      answers = e;
+      modes = ours ∙ sym theirs;
+      user = λ _. x.came;
+      entered = λ h. absurd (true≢false (sym ours ∙ h));
+      our_kept = x.ours;
+      their_kept = x.theirs;
+    }
+both_alike true a b a' b' r q u v e x =
+    let ours : is_user a'.state.system.status ≡ false = ap is_user x.came.our_entry.status in
+    let theirs : is_user b'.state.system.status ≡ false = ap is_user x.came.their_entry.status in
+    record {
+      answers = e;
+      modes = ours ∙ sym theirs;
+      user = λ h. absurd (true≢false (sym h ∙ ours));
+      entered = λ _. x.came;
+      our_kept = x.ours;
+      their_kept = x.theirs;
+    }

@@ -1,13 +1,11 @@
 -- One instruction, of two machines in user mode that agree.
-use Rattle.std.proofs.Common.{◌≡◌, ℕ, ◌/◌, Bool, true, false, not, eqb, List, get_or, set, ℤ, Some, None, Ok, Err, Option, Result, sym, refl, ap, ◌∙◌, subst}
+use Rattle.std.proofs.Common.{◌≡◌, ℕ, Bool, true, false, not, eqb, List, get_or, set, Some, None, Ok, Err, Option, Result, sym, refl, ap, ◌∙◌, subst}
 use Rattle.std.proofs.lemmas.Bool.{false≢true}
-use Rattle.arithmetic.specs.declared.Operation.{Operation}
 use Rattle.arithmetic.specs.Values.{value_of}
-use Rattle.arithmetic.specs.Words.{complement_of, high_byte_set, signed_added, word_of, words_added}
+use Rattle.arithmetic.specs.Words.{complement_of, high_byte_set, signed_added, words_added}
 use Rattle.instruction.specs.declared.Instruction.{Instruction}
 use Rattle.instruction.specs.declared.Instruction.TheVariants as instruction
 use Rattle.instruction.specs.declared.Privileged.{Privileged}
-use Rattle.instruction.specs.declared.Port.{Port}
 use Rattle.instruction.specs.declared.Register.{Register}
 use Rattle.instruction.specs.Fields.{register_number}
 use Rattle.translation.specs.declared.address.Width.{Width}
@@ -18,7 +16,6 @@ use Rattle.access.specs.Accesses.{loaded, store_answer, stored}
 use Rattle.answers.specs.declared.StepAnswer.{StepAnswer}
 use Rattle.answers.specs.declared.StepAnswer.TheVariants as answer
 use Rattle.state.specs.declared.Ports.{Ports}
-use Rattle.state.specs.declared.State.{State}
 use Rattle.state.specs.declared.SystemRegisters.{SystemRegisters}
 use Rattle.execution.specs.Execution.{executed, extended, loaded_by, loaded_into, privileged_by, store_answered_by, stored_from}
 use Rattle.state.specs.Registers.{jumped_if}
@@ -26,17 +23,19 @@ use Rattle.state.specs.States.{register_at, register_set}
 use Rattle.state.specs.Status.{is_user}
 use Rattle.machine.specs.Steps.{concluded, entering, performed}
 use Rattle.execution.specs.Worlds.{Outcome, World, outcome, with_state, world}
-use Rattle.machine.specs.Soundness.{resolved}
-use Rattle.calls.specs.Calls.{step_entry}
-use Rattle.isolation.specs.Share.{Agree, AgreeButPc, OpenForWriting}
-use Rattle.isolation.specs.Law.{Kept}
+use Rattle.machine.proofs.Soundness.{resolved}
+use Rattle.calls.specs.Calls.{is_event, step_entry}
+use Rattle.isolation.specs.Share.{Agree}
 use Rattle.isolation.proofs.Translation.{loaded_alike, store_answer_alike, stored_alike, stored_kept}
 use Rattle.isolation.proofs.Agreeing.{Running, Stands, accesses_shown, changed, changed_agree, changed_stands, same_stands, status_alike}
 use Rattle.isolation.proofs.Entering.{Paired, entering_both, ran_both}
 
 -- two steps, or what is left of them, answer the same and come to the same
+abbrev pub is_entry : StepAnswer → Bool
+is_entry r = is_event (step_entry r)
+
 abbrev pub StepPaired : World → World → Outcome StepAnswer → Outcome StepAnswer → Type 0
-StepPaired a b x y = Paired step_entry a b x y
+StepPaired a b x y = Paired is_entry a b x y
 
 -- what is the same in user mode is the same for two machines that are in it
 pub in_user : {T : Type 0} (f g : Bool → T) (s t : Bool) → s ≡ true → t ≡ true → f true ≡ g true → f s ≡ g t

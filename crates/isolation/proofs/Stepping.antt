@@ -9,12 +9,12 @@ use Rattle.state.specs.Status.{interrupts_on, is_user}
 use Rattle.machine.specs.Steps.{advanced, entering, fetched_by, step_of}
 use Rattle.state.specs.Waiting.{is_interrupted, lowest_waiting}
 use Rattle.execution.specs.Worlds.{Outcome, World}
-use Rattle.calls.specs.Calls.{step_entry}
 use Rattle.isolation.specs.Share.{Agree}
+use Rattle.isolation.specs.Law.{Alike}
 use Rattle.isolation.proofs.Translation.{fetched_alike}
 use Rattle.isolation.proofs.Agreeing.{Running, Stands, changed_agree, changed_stands, fetches_shown, same_stands, stands_running}
-use Rattle.isolation.proofs.Entering.{paired_after, ran_both}
-use Rattle.isolation.proofs.Execution.{StepPaired, entering_paired, in_user, performed_paired}
+use Rattle.isolation.proofs.Entering.{both_alike, paired_after, ran_both}
+use Rattle.isolation.proofs.Execution.{StepPaired, is_entry, entering_paired, in_user, performed_paired}
 
 -- what a machine fetches at its PC
 abbrev fetched_for : World → Result ℕ Event
@@ -40,7 +40,7 @@ module _ (a b : World) (u : Running a) (v : Running b) (g : Agree a b) where
 
   fetched_paired : (r : Result ℕ Event) → StepPaired a b (fetched_by r a.state.pc (advanced a)) (fetched_by r b.state.pc (advanced b))
   fetched_paired (Ok word) =
-      paired_after step_entry a b (advanced a) (advanced b) _ _
+      paired_after is_entry a b (advanced a) (advanced b) _ _
       (ran_both a b (advanced a) (advanced b) advanced_agree (advanced_stands a) (advanced_stands b))
       (performed_paired (advanced a) (advanced b) (stands_running a (advanced a) u (advanced_stands a)) (stands_running b (advanced b) v (advanced_stands b)) advanced_agree (decode_of word))
   fetched_paired (Err e) =
@@ -62,3 +62,6 @@ module _ (a b : World) (u : Running a) (v : Running b) (g : Agree a b) where
       go : (z : Bool) → StepPaired a b (taken z a) (taken z b)
       go true = entering_paired a b u v g a b event.Interrupt 0 0 g (same_stands a) (same_stands b) refl
       go false = tried_paired
+
+  pub step_alike : Alike a b (step_of a).after (step_of b).after (step_of a).answer (step_of b).answer
+  step_alike = both_alike (is_entry (step_of a).answer) a b (step_of a).after (step_of b).after _ _ u v step_paired.answer step_paired.both

@@ -1,21 +1,18 @@
 -- Tables that agree on the user's pages translate the user's addresses alike, and only to frames that they name.
-use Rattle.std.proofs.Common.{◌≡◌, ℕ, ◌+◌, ◌*◌, ◌/◌, ◌%◌, ◌<◌, Bool, true, false, cond, ◌&&◌, eqb, leb, ◌⊎◌, List, Some, None, Ok, Err, Option, Result, sym, refl, ap, ◌∙◌, subst, inl, inr, arith}
+use Rattle.std.proofs.Common.{◌≡◌, ℕ, ◌+◌, ◌*◌, ◌/◌, ◌%◌, Bool, true, false, cond, ◌&&◌, eqb, List, Some, None, Ok, Err, Option, Result, sym, refl, ap, ◌∙◌, subst, inl, inr, arith}
 use Rattle.std.proofs.lemmas.Bool.{cases_eq, eqb-false, leb-false}
-use Rattle.std.proofs.lemmas.Bool.Decides.{nat_tests}
 use Rattle.memory.specs.declared.Mark.{Mark}
-use Rattle.memory.specs.Meaning.{mark_at, put}
+use Rattle.memory.specs.Meaning.{mark_at}
 use Rattle.translation.specs.declared.address.Access.{Access}
 use Rattle.translation.specs.declared.address.Access.TheVariants.{Load, Store}
 use Rattle.translation.specs.declared.address.Width.{Width}
 use Rattle.translation.specs.declared.address.Width.TheVariants.{Byte, Word}
 use Rattle.translation.specs.declared.event.Event.{Event}
-use Rattle.translation.specs.declared.event.Event.TheVariants as event
 use Rattle.paging.specs.declared.PageEntry.{PageEntry}
 use Rattle.paging.specs.Tables.{frame_of, is_read_only, is_valid, lookup_of, page_at}
 use Rattle.translation.specs.Addresses.{accessible, data_address, data_found, fetch_address, fetch_found, is_misaligned, is_protected, is_store, placed, present}
 use Rattle.access.specs.Accesses.{fetched, loaded, loaded_at, store_answer, store_answer_at, stored, stored_at, value_at, value_put, word_at}
-use Rattle.access.specs.Opening.{Opens, OpensForWriting}
-use Rattle.access.proofs.Passed.{DataPassed, FetchPassed, data_passed, fetch_passed}
+use Rattle.access.proofs.Passed.{DataPassed, data_passed, fetch_passed}
 use Rattle.access.proofs.Confining.{confined}
 use Rattle.state.specs.declared.Tables.{Tables}
 use Rattle.isolation.specs.Share.{NamedBy, OpenForWriting, UserPage}

@@ -1,15 +1,10 @@
 -- What is promised of two machines that agree on the user's share, and of each of them.
-use Rattle.std.specs.Prelude.{◌≡◌, ℕ, ◌/◌, true, not, List, [], ◌∷◌, Some, None, Option}
-use Rattle.std.specs.Option.{option_or}
-use Rattle.translation.specs.declared.event.Event.{Event}
-use Rattle.translation.specs.Events.{code_of}
-use Rattle.machine.specs.Laws.{OnlyEntered}
+use Rattle.std.specs.Prelude.{◌≡◌, ℕ, ◌/◌, true, false, List}
 use Rattle.machine.specs.Sound.{sound}
 use Rattle.state.specs.Status.{is_user}
 use Rattle.execution.specs.Worlds.{World}
 use Rattle.calls.specs.declared.Answer.{Answer}
 use Rattle.calls.specs.declared.Call.{Call}
-use Rattle.calls.specs.Calls.{entry_of, is_event}
 use Rattle.calls.specs.Chains.{Chain}
 use Rattle.isolation.specs.Share.{Agree, AgreeButPc, OpenForWriting}
 
@@ -21,50 +16,50 @@ pub record Kept (before after : World) : Type 0 where
   pub marks : after.marks ≡ before.marks
   pub bytes : (address : ℕ) → (OpenForWriting before.state.tables (address / 1024) → ⊥) → after.bytes address ≡ before.bytes address
 
+-- An entry writes just S0 to S3, S7 and PC: S7 takes 1, and PC takes the entry address S5.
+pub record EntryOnly (before after : World) : Type 0 where
+  pub registers : after.state.registers ≡ before.state.registers
+  pub ports : after.state.ports ≡ before.state.ports
+  pub waiting : after.state.waiting ≡ before.state.waiting
+  pub tables : after.state.tables ≡ before.state.tables
+  pub halted : after.state.halted ≡ before.state.halted
+  pub marks : after.marks ≡ before.marks
+  pub bytes : after.bytes ≡ before.bytes
+  pub scratch : after.state.system.scratch ≡ before.state.system.scratch
+  pub entry_address : after.state.system.entry_address ≡ before.state.system.entry_address
+  pub stack_pointer : after.state.system.stack_pointer ≡ before.state.system.stack_pointer
+  pub status : after.state.system.status ≡ 1
+  pub pc : after.state.pc ≡ before.state.system.entry_address
+
 -- Where the machines are still in user mode: they agree, and no system register has changed.
 pub record StillUser (ours theirs ours' theirs' : World) : Type 0 where
   pub agree : Agree ours' theirs'
   pub our_system : ours'.state.system ≡ ours.state.system
   pub their_system : theirs'.state.system ≡ theirs.state.system
 
--- An entry for an event: S0 takes the status word, S1 takes PC and S2 the event's code; beside them it writes just S3, S7
--- and PC.
-pub record EntryFor (e : Event) (before after : World) : Type 0 where
-  pub only : OnlyEntered before after
-  pub saved_status : after.state.system.saved_status ≡ before.state.system.status
-  pub return_address : after.state.system.return_address ≡ before.state.pc
-  pub event : after.state.system.event ≡ code_of e
-
--- Where they have entered the system for an event: just before the entry they agreed, and no system register had changed;
--- each has then entered for that event; after it S0 to S3 are equal, and they agree in all but PC.
-pub record HaveEntered (e : Event) (ours theirs ours' theirs' : World) : Type 0 where
+-- Where they have entered the system: just before the entry they agreed, and no system register had changed; after it S0 to
+-- S3 are equal, and they agree in all but PC.
+pub record HaveEntered (ours theirs ours' theirs' : World) : Type 0 where
   pub our_last : World
   pub their_last : World
   pub agreed : Agree our_last their_last
   pub our_system : our_last.state.system ≡ ours.state.system
   pub their_system : their_last.state.system ≡ theirs.state.system
-  pub our_entry : EntryFor e our_last ours'
-  pub their_entry : EntryFor e their_last theirs'
+  pub our_entry : EntryOnly our_last ours'
+  pub their_entry : EntryOnly their_last theirs'
   pub saved_status : ours'.state.system.saved_status ≡ theirs'.state.system.saved_status
   pub return_address : ours'.state.system.return_address ≡ theirs'.state.system.return_address
   pub event : ours'.state.system.event ≡ theirs'.state.system.event
   pub detail : ours'.state.system.detail ≡ theirs'.state.system.detail
   pub agree : AgreeButPc ours' theirs'
 
--- The event of the first answer that tells of an entry.
-abbrev pub entry_in : List Answer → Option Event
-entry_in [] = None
-entry_in (r ∷ rs) = option_or (entry_of r) (entry_in rs)
-
 -- What two machines come to, ours from `ours` to `ours'` with the answers `r`, theirs from `theirs` to `theirs'` with `q`.
--- The answers are equal; each machine is in user mode exactly if its answers tell of no entry, and has otherwise entered for
--- the event that they tell.
-pub record Alike (ours theirs ours' theirs' : World) (r q : List Answer) : Type 0 where
+-- The answers are equal; one is in user mode exactly if the other is.
+pub record Alike {T : Type 0} (ours theirs ours' theirs' : World) (r q : T) : Type 0 where
   pub answers : r ≡ q
-  pub our_mode : is_user ours'.state.system.status ≡ not (is_event (entry_in r))
-  pub their_mode : is_user theirs'.state.system.status ≡ not (is_event (entry_in q))
-  pub user : entry_in r ≡ None → StillUser ours theirs ours' theirs'
-  pub entered : (e : Event) → entry_in r ≡ Some e → HaveEntered e ours theirs ours' theirs'
+  pub modes : is_user ours'.state.system.status ≡ is_user theirs'.state.system.status
+  pub user : is_user ours'.state.system.status ≡ true → StillUser ours theirs ours' theirs'
+  pub entered : is_user ours'.state.system.status ≡ false → HaveEntered ours theirs ours' theirs'
   pub our_kept : Kept ours ours'
   pub their_kept : Kept theirs theirs'
 

@@ -1,4 +1,6 @@
 //! What a user program can never find out, and what it can never touch.
+#![tactic(auto)]
+
 ghost use Rattle.isolation.specs.Law.{Isolation};
 
 /// The isolation law, for every two machines over every two memories that agree on the user's

@@ -6,7 +6,6 @@ use Rattle.records.specs.declared.fault.RecordFault.TheVariants.{TooLong}
 use Rattle.records.specs.Records.{Item, block, end, Reading, record_of, open_of}
 use Rattle.records.proofs.Within.{record_within}
 use Rattle.faults.specs.declared.PutFault.{PutFault}
-use Rattle.loading.specs.declared.load.Step.{Step}
 use Rattle.loading.specs.declared.load.Step.TheVariants.{Put}
 use Rattle.loading.specs.Blocks.{put_of}
 use Rattle.loading.specs.Loads.{Turn, Final, turn, put_by, turn_by, turn_of, continued, load_from, load_by, load_of}

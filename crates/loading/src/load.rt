@@ -34,12 +34,12 @@ enum Step {
 /// Loads `file` into `memory`, block by block. If it is refused, the blocks before the record at
 /// fault stay written.
 pub fn load<Mem: Memory>(memory: &mut Mem, file: &[u8]) -> Result<Loaded, LoadRefusal>
-    ensures answer { result ≡ (load_of (marks memory.old) (bytes memory.old) file.now).answer }
-    ensures bytes { bytes memory.new ≡ (load_of (marks memory.old) (bytes memory.old) file.now).bytes }
-    ensures marks { marks memory.new ≡ marks memory.old }
-    ensures rest { rest memory.new ≡ rest memory.old }
-    ensures accounted { Accounted (marks memory.old) (bytes memory.old) (bytes memory.new) file.now result }
-    ensures faithful { Faithful (marks memory.old) (bytes memory.old) (bytes memory.new) file.now result }
+    ensures answer { result ≡ (load_of (Mem.marks memory.old) (Mem.bytes memory.old) file.now).answer }
+    ensures bytes { Mem.bytes memory.new ≡ (load_of (Mem.marks memory.old) (Mem.bytes memory.old) file.now).bytes }
+    ensures marks { Mem.marks memory.new ≡ Mem.marks memory.old }
+    ensures rest { Mem.rest memory.new ≡ Mem.rest memory.old }
+    ensures accounted { Accounted (Mem.marks memory.old) (Mem.bytes memory.old) (Mem.bytes memory.new) file.now result }
+    ensures faithful { Faithful (Mem.marks memory.old) (Mem.bytes memory.old) (Mem.bytes memory.new) file.now result }
 {
     match Reader::open(file) {
         Ok(mut reader) => load_records(memory, &mut reader),
@@ -54,9 +54,9 @@ pub fn load<Mem: Memory>(memory: &mut Mem, file: &[u8]) -> Result<Loaded, LoadRe
 /// Loads the records of a file that is read from its start.
 fn load_records<Mem: Memory>(memory: &mut Mem, reader: &mut Reader) -> Result<Loaded, LoadRefusal>
     requires { reader.old.position ≡ 0 }
-    ensures outcome { final result (bytes memory.new) ≡ load_from (length reader.old.file.now + 1) (marks memory.old) (bytes memory.old) reader.old.file.now 0 0 0 }
-    ensures marks { marks memory.new ≡ marks memory.old }
-    ensures rest { rest memory.new ≡ rest memory.old }
+    ensures outcome { final result (Mem.bytes memory.new) ≡ load_from (length reader.old.file.now + 1) (Mem.marks memory.old) (Mem.bytes memory.old) reader.old.file.now 0 0 0 }
+    ensures marks { Mem.marks memory.new ≡ Mem.marks memory.old }
+    ensures rest { Mem.rest memory.new ≡ Mem.rest memory.old }
 {
     let mut ticket = Ticket::open();
     let mut blocks = 0;
@@ -86,11 +86,11 @@ fn take_record<Mem: Memory>(
     ticket: &mut Ticket,
 ) -> Result<Step, LoadFault>
     requires { ticket.old.spent ≡ false }
-    ensures turn { turn result ticket.new.sum (bytes memory.new) reader.new.position ≡ turn_of (marks memory.old) (bytes memory.old) reader.old.file.now reader.old.position ticket.old.sum }
+    ensures turn { turn result ticket.new.sum (Mem.bytes memory.new) reader.new.position ≡ turn_of (Mem.marks memory.old) (Mem.bytes memory.old) reader.old.file.now reader.old.position ticket.old.sum }
     ensures spent { ticket.new.spent ≡ false }
     ensures file { reader.new.file.now ≡ reader.old.file.now }
-    ensures marks { marks memory.new ≡ marks memory.old }
-    ensures rest { rest memory.new ≡ rest memory.old }
+    ensures marks { Mem.marks memory.new ≡ Mem.marks memory.old }
+    ensures rest { Mem.rest memory.new ≡ Mem.rest memory.old }
 {
     match reader.next_record()? {
         Record::Block { address, body } => {

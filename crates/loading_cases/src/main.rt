@@ -1,4 +1,6 @@
 //! Loads many files, good and bad, and prints what each load answers.
+#![tactic(auto)]
+
 mod file;
 mod show;
 

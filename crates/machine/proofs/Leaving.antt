@@ -32,9 +32,8 @@ use Rattle.state.specs.Waiting.{interrupt_given, is_interrupted, lowest_waiting}
 use Rattle.state.specs.Control.{controlled, progress_of}
 use Rattle.execution.specs.Execution.{executed, loaded_by, loaded_into, privileged_by, store_answered_by, stored_from}
 use Rattle.machine.specs.Steps.{advanced, concluded, entering, fetched_by, performed, step_of}
-use Rattle.state.specs.Entries.{entered}
 use Rattle.machine.specs.Laws.{AtMostOne, AtMostTwo, OnlyEntered, StepLaw}
-use Rattle.machine.specs.Soundness.{resolved}
+use Rattle.machine.proofs.Soundness.{resolved}
 
 -- registers
 none_changed : (xs : List ℕ) → AtMostOne xs xs
@@ -84,26 +83,9 @@ halted_entered P e h = absurd (let z : ◌≡◌ {A = ℕ} 0 1 = cc in omega ari
 ran_lawful : (w : World) (s : State) → RegisterLaw w.state s → Lawful w (outcome (with_state s w) answer.Ran)
 ran_lawful w s l = record { entry = ran_entered _; register = l; bytes = same_bytes _ _ _ _; marks = refl }
 
--- an entry
-pub entered_only : (e : Event) (detail : ℕ) (w : World) → OnlyEntered w (with_state (entered e detail w.state) w)
-entered_only e detail w = record {
-  registers = refl;
-  scratch = refl;
-  entry_address = refl;
-  stack_pointer = refl;
-  status = refl;
-  pc = refl;
-  ports = refl;
-  waiting = refl;
-  tables = refl;
-  halted = refl;
-  marks = refl;
-  bytes = refl;
-}
-
 entering_lawful : (e : Event) (detail : ℕ) (w : World) → Lawful w (entering e detail w)
 entering_lawful e detail w = record {
-  entry = λ e' h. entered_only e detail w;
+  entry = λ e' h. record { registers = refl; scratch = refl; entry_address = refl; stack_pointer = refl; ports = refl; waiting = refl; tables = refl; halted = refl; bytes = refl };
   register = none_changed w.state.registers;
   bytes = same_bytes _ _ _ _;
   marks = refl;
@@ -221,25 +203,12 @@ cond_lawful : (w : World) (b : Bool) (x y : Outcome StepAnswer) → Lawful w x �
 cond_lawful w true x y p q = p
 cond_lawful w false x y p q = q
 
--- the law asks nothing of PC before the step
+-- PC is no part of the law
 from_advanced : (w : World) (o : Outcome StepAnswer) → Lawful (advanced w) o → Lawful w o
 from_advanced w o l = record {
   entry = λ e h.
       let n = l.entry e h in
-      record {
-        registers = n.registers;
-        scratch = n.scratch;
-        entry_address = n.entry_address;
-        stack_pointer = n.stack_pointer;
-        status = n.status;
-        pc = n.pc;
-        ports = n.ports;
-        waiting = n.waiting;
-        tables = n.tables;
-        halted = n.halted;
-        marks = n.marks;
-        bytes = n.bytes;
-      };
+      record { registers = n.registers; scratch = n.scratch; entry_address = n.entry_address; stack_pointer = n.stack_pointer; ports = n.ports; waiting = n.waiting; tables = n.tables; halted = n.halted; bytes = n.bytes };
   register = l.register;
   bytes = l.bytes;
   marks = l.marks;

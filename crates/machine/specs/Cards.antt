@@ -1,5 +1,5 @@
 -- Worked cases of single steps.
-use Rattle.std.specs.Prelude.{◌≡◌, ℕ, List, [], ◌∷◌, set}
+use Rattle.std.specs.Prelude.{◌≡◌, ℕ, List, [], ◌∷◌}
 use Rattle.instruction.specs.declared.SystemRegister.TheVariants.{EntryAddress, Status}
 use Rattle.instruction.specs.declared.Register.TheVariants.{R1, R2, R3}
 use Rattle.memory.specs.declared.Mark.TheVariants.{Plain}

@@ -4,5 +4,4 @@ pub mod Steps
 pub mod Runs
 pub mod Cards
 pub mod Laws
-pub mod UserSteps
-pub mod Soundness
+pub mod UserRuns

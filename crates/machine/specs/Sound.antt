@@ -1,5 +1,5 @@
 -- The rules that no machine breaks.
-use Rattle.std.specs.Prelude.{ℕ, ◌%◌, Bool, true, false, cond, ◌&&◌, List, [], ◌∷◌, ◌==◌, nat_lt}
+use Rattle.std.specs.Prelude.{ℕ, ◌%◌, Bool, true, false, ◌&&◌, List, [], ◌∷◌, ◌==◌, nat_lt}
 use Rattle.paging.specs.declared.PageEntry.{PageEntry}
 use Rattle.state.specs.declared.State.{State}
 use Rattle.state.specs.declared.SystemRegisters.{SystemRegisters}

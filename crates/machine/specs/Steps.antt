@@ -1,5 +1,5 @@
 -- One step of a machine.
-use Rattle.std.specs.Prelude.{ℕ, ◌+◌, ◌%◌, Bool, true, false, cond, Some, None, Ok, Err, Option, Result}
+use Rattle.std.specs.Prelude.{ℕ, ◌+◌, ◌%◌, cond, Some, None, Ok, Err, Option, Result}
 use Rattle.instruction.specs.declared.Instruction.{Instruction}
 use Rattle.instruction.specs.Decode.{decode_of}
 use Rattle.translation.specs.declared.event.Event.{Event}
@@ -12,13 +12,12 @@ use Rattle.answers.specs.declared.StepAnswer.TheVariants as answer
 use Rattle.state.specs.declared.privileged.Progress.{Progress}
 use Rattle.state.specs.declared.privileged.Progress.TheVariants.{Ran, Halted}
 use Rattle.execution.specs.declared.Raised.{Raised}
-use Rattle.state.specs.declared.State.{State}
 use Rattle.execution.specs.Worlds.{Outcome, World, outcome, with_state}
 use Rattle.state.specs.Entries.{entered}
 use Rattle.state.specs.States.{with_pc}
 use Rattle.state.specs.Status.{is_user}
 use Rattle.state.specs.Waiting.{is_interrupted}
-use Rattle.execution.specs.Execution.{Execution, executed}
+use Rattle.execution.specs.Execution.{executed}
 
 -- An event is entered.
 abbrev pub entering : Event → ℕ → World → Outcome StepAnswer

@@ -6,6 +6,7 @@ mod readings;
 mod running;
 mod starting;
 mod stepping;
+mod user_running;
 
 ghost use Rattle.std.specs.Prelude.{◌≡◌, true};
 ghost use Rattle.machine.specs.Sound.{sound};

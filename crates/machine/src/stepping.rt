@@ -28,8 +28,8 @@ fn enter(state: &mut State, event: Event, detail: u16) -> StepAnswer
 
 /// Does what a word says, once PC has gone past it.
 fn perform<Mem: Memory>(state: &mut State, memory: &mut Mem, word: u16) -> StepAnswer
-    ensures outcome { outcome (world state.new (marks memory.new) (bytes memory.new)) result ≡ performed (decode_of word) (world state.old (marks memory.old) (bytes memory.old)) }
-    ensures rest { rest memory.new ≡ rest memory.old }
+    ensures outcome { outcome (world state.new (Mem.marks memory.new) (Mem.bytes memory.new)) result ≡ performed (decode_of word) (world state.old (Mem.marks memory.old) (Mem.bytes memory.old)) }
+    ensures rest { Mem.rest memory.new ≡ Mem.rest memory.old }
 {
     match &decode(word) {
         None => enter(state, Event::IllegalInstruction, 0),
@@ -43,8 +43,8 @@ fn perform<Mem: Memory>(state: &mut State, memory: &mut Mem, word: u16) -> StepA
 
 /// One step of a machine that is not halted.
 pub(crate) fn advance<Mem: Memory>(state: &mut State, memory: &mut Mem) -> StepAnswer
-    ensures outcome { outcome (world state.new (marks memory.new) (bytes memory.new)) result ≡ step_of (world state.old (marks memory.old) (bytes memory.old)) }
-    ensures rest { rest memory.new ≡ rest memory.old }
+    ensures outcome { outcome (world state.new (Mem.marks memory.new) (Mem.bytes memory.new)) result ≡ step_of (world state.old (Mem.marks memory.old) (Mem.bytes memory.old)) }
+    ensures rest { Mem.rest memory.new ≡ Mem.rest memory.old }
 {
     if state.is_interrupted() {
         return enter(state, Event::Interrupt, 0);

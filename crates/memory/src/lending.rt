@@ -8,9 +8,9 @@ use crate::flat::FlatMemory;
 use crate::{Memory, MemoryFault};
 
 fn write_to<Mem: Memory>(memory: &mut Mem, address: u16, byte: u8) -> Result<(), MemoryFault>
-    ensures answer { result ≡ write_answer (marks memory.old) address }
-    ensures bytes { bytes memory.new ≡ written (marks memory.old) (bytes memory.old) address byte }
-    ensures rest { rest memory.new ≡ rest memory.old }
+    ensures answer { result ≡ write_answer (Mem.marks memory.old) address }
+    ensures bytes { Mem.bytes memory.new ≡ written (Mem.marks memory.old) (Mem.bytes memory.old) address byte }
+    ensures rest { Mem.rest memory.new ≡ Mem.rest memory.old }
 {
     memory.write(address, byte)
 }

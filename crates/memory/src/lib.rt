@@ -1,6 +1,8 @@
 //! What a memory is to the machine: 64 frames of 1,024 bytes, each plain, fixed or absent.
 //! Whoever supplies a memory implements `Memory` and proves its contracts; two memories over
 //! lent buffers come with it.
+#![tactic(auto)]
+
 pub mod flat;
 pub mod lending;
 pub mod split;

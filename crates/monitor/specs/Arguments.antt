@@ -16,7 +16,7 @@ pair_of None b = None
 
 -- two numbers, each of at most what it may be
 abbrev pub two_numbers : Option (List ℕ) → ℕ → ℕ → Option Pair
-two_numbers (Some line) first second = pair_of (number_of (split_of line).first first) (one_number (split_of line).rest second)
+two_numbers (Some line) first second = pair_of (number_of (split_of line).word first) (one_number (split_of line).rest second)
 two_numbers None first second = None
 
 -- the numbers that were read are at most what they may be

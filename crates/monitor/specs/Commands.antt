@@ -3,16 +3,16 @@ use Rattle.std.specs.Prelude.{ℕ, Bool, true, cond, ◌&&◌, ◌||◌, List, [
 use Prim.Native.String.{String}
 use Rattle.std.specs.Option.{option_map}
 use Rattle.std.specs.Str.{bytes_eq}
+use Rattle.search.specs.First.{first_match}
 use Rattle.names.specs.declared.Name.{Name}
-use Rattle.names.specs.Names.{filled, first_named, name_of}
+use Rattle.names.specs.Names.{filled, name_of}
 use Rattle.monitor.specs.declared.arguments.Pair.{Pair}
 use Rattle.monitor.specs.declared.commands.Verb.{Verb}
 use Rattle.monitor.specs.declared.commands.Verb.TheVariants as verb
 use Rattle.monitor.specs.declared.commands.CommandRow.{CommandRow}
 use Rattle.monitor.specs.declared.commands.Command.{Command}
 use Rattle.monitor.specs.declared.commands.Command.TheVariants as command
-use Rattle.monitor.specs.Splits.{Parts}
-use Rattle.monitor.specs.Words.{split_of}
+use Rattle.monitor.specs.Words.{Parts, split_of}
 use Rattle.monitor.specs.Numbers.{number_of}
 use Rattle.monitor.specs.Arguments.{one_number, two_numbers}
 
@@ -96,7 +96,8 @@ command_rows =
     ∷ []
 
 abbrev pub row_named : Option Name → Option CommandRow
-row_named name = first_named (λ (r : CommandRow). r.name) command_rows name
+row_named (Some name) = first_match (λ (r : CommandRow). bytes_eq r.name.letters name.letters) command_rows
+row_named None = None
 
 abbrev pub verb_of : List ℕ → Option Verb
 verb_of name = option_map (λ (r : CommandRow). r.verb) (row_named (name_of name))
@@ -108,7 +109,7 @@ area_by (Some plain) None file = Some (split_memory_over file plain)
 area_by None fixed file = None
 
 abbrev pub area_of : List ℕ → Option Said
-area_of line = area_by (one_number (split_of line).rest 4294967295) (number_of (split_of line).first 4294967295) (split_of line).first
+area_of line = area_by (one_number (split_of line).rest 4294967295) (number_of (split_of line).word 4294967295) (split_of line).word
 
 abbrev pub area_after : Option (List ℕ) → Option Said
 area_after (Some line) = area_of line
@@ -116,8 +117,8 @@ area_after None = None
 
 abbrev pub memory_of : List ℕ → Option Said
 memory_of line =
-    cond (bytes_eq (split_of line).first (codes "flat")) (option_map flat_memory (one_number (split_of line).rest 4294967295))
-    (cond (bytes_eq (split_of line).first (codes "split")) (area_after (split_of line).rest) None)
+    cond (bytes_eq (split_of line).word (codes "flat")) (option_map flat_memory (one_number (split_of line).rest 4294967295))
+    (cond (bytes_eq (split_of line).word (codes "split")) (area_after (split_of line).rest) None)
 
 abbrev pub memory_after : Option (List ℕ) → Option Said
 memory_after (Some line) = memory_of line
@@ -166,7 +167,7 @@ abbrev pub passed_over : List ℕ → Bool
 passed_over line = is_blank line || slice_index line 0 == 35
 
 abbrev pub command_in : Parts → Said
-command_in words = taken_by (verb_of words.first) words.rest
+command_in words = taken_by (verb_of words.word) words.rest
 
 abbrev pub command_of : List ℕ → Said
 command_of line = cond (passed_over line) nothing (command_in (split_of line))

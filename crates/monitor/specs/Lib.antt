@@ -1,4 +1,3 @@
-pub mod Splits
 pub mod Words
 pub mod Lines
 pub mod Numbers

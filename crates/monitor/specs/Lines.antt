@@ -1,7 +1,7 @@
 -- A text is its first line and, behind a newline (10), the others.
 use Rattle.std.specs.Prelude.{ℕ, Bool, not, List, take, ◌==◌}
 use Rattle.std.specs.List.{prefix_len}
-use Rattle.monitor.specs.Splits.{Parts, split_behind}
+use Rattle.monitor.specs.Words.{Parts, split_behind}
 
 -- a byte that does not end a line
 abbrev pub in_line : ℕ → Bool

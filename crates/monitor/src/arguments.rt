@@ -1,6 +1,6 @@
 //! What stands behind a command's name.
 ghost use Rattle.std.specs.Prelude.{◌≡◌};
-ghost use Rattle.monitor.specs.Splits.{lent};
+ghost use Rattle.monitor.specs.Words.{lent};
 ghost use Rattle.monitor.specs.Numbers.{Within};
 ghost use Rattle.monitor.specs.Arguments.{BothWithin, one_number, two_numbers};
 
@@ -31,7 +31,7 @@ pub fn two_numbers(rest: Option<&[u8]>, first_most: u32, second_most: u32) -> Op
     ensures bound { BothWithin first_most second_most result }
 {
     let words = split_word(rest?);
-    let first = parse_number(words.first, first_most)?;
+    let first = parse_number(words.word, first_most)?;
     let second = one_number(words.rest, second_most)?;
     Some(Pair { first, second })
 }

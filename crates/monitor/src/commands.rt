@@ -1,7 +1,8 @@
 //! The monitor's commands: one table of their names, and what each takes behind its name.
 ghost use Rattle.std.specs.Prelude.{◌≡◌, ◌<◌, false, length};
-ghost use Rattle.names.specs.Names.{name_of, same_name};
-ghost use Rattle.monitor.specs.Splits.{lent};
+ghost use Rattle.std.specs.Str.{bytes_eq};
+ghost use Rattle.names.specs.Names.{name_of};
+ghost use Rattle.monitor.specs.Words.{lent};
 ghost use Rattle.monitor.specs.Commands.{command_rows, row_named, verb_of, memory_of, area_of, said, said_some, alone_said, taken_of, or_unknown, is_blank, passed_over, command_of};
 
 use crate::arguments::{one_number, two_numbers};
@@ -48,7 +49,7 @@ pub struct CommandRow {
 impl Entry for CommandRow {
     type Key = Name;
 
-    ghost matched = { λ row name. same_name row.name name };
+    ghost matched = { λ row name. bytes_eq row.name.letters name.letters };
 
     fn matches(&self, name: Name) -> bool {
         self.name.is(name)
@@ -202,7 +203,7 @@ pub fn parse_command<'a>(line: &'a [u8]) -> Command<'a>
         return Command::Nothing;
     }
     let words = split_word(line);
-    match verb_named(words.first) {
+    match verb_named(words.word) {
         Some(verb) => or_unknown(taken(verb, words.rest)),
         None => Command::Unknown,
     }
@@ -332,11 +333,11 @@ fn memory<'a>(line: &'a [u8]) -> Option<Command<'a>>
     ensures { said_some result ≡ memory_of line.now }
 {
     let words = split_word(line);
-    if same_word(words.first, b"flat") {
+    if same_word(words.word, b"flat") {
         let size = one_number(words.rest, u32::MAX)?;
         return Some(Command::FlatMemory { size });
     }
-    if same_word(words.first, b"split") {
+    if same_word(words.word, b"split") {
         return split_memory(words.rest?);
     }
     None
@@ -348,10 +349,10 @@ fn split_memory<'a>(line: &'a [u8]) -> Option<Command<'a>>
 {
     let words = split_word(line);
     let plain = one_number(words.rest, u32::MAX)?;
-    match parse_number(words.first, u32::MAX) {
+    match parse_number(words.word, u32::MAX) {
         Some(fixed) => Some(Command::SplitMemory { fixed, plain }),
         None => Some(Command::SplitMemoryOver {
-            file: words.first,
+            file: words.word,
             plain,
         }),
     }

@@ -1,11 +1,11 @@
 //! A text, line by line.
 ghost use Rattle.std.specs.Prelude.{◌≡◌};
-ghost use Rattle.monitor.specs.Splits.{split};
+ghost use Rattle.monitor.specs.Words.{split};
 ghost use Rattle.monitor.specs.Lines.{first_line, lines_of};
 
-use crate::splits::{Split, split_behind};
+use crate::words::{Split, split_behind};
 
-/// Splits a text behind its first line.
+/// Splits a text behind its first line, which is the word of what is answered.
 pub fn split_line<'a>(text: &'a [u8]) -> Split<'a>
     ensures { split result ≡ lines_of text.now }
 {

@@ -1,7 +1,5 @@
 -- A name is its letters, filled up to eight with blanks (32).
-use Rattle.std.specs.Prelude.{ℕ, Bool, cond, List, [], ◌∷◌, length, Some, None, Option, ◌==◌, nat_lt, slice_index_or}
-use Rattle.std.specs.Str.{bytes_eq}
-use Rattle.search.specs.First.{first_match}
+use Rattle.std.specs.Prelude.{ℕ, cond, List, [], ◌∷◌, length, Some, None, Option, ◌==◌, nat_lt, slice_index_or}
 use Rattle.names.specs.declared.Name.{Name}
 
 -- the letter at an index, or a blank past the end
@@ -15,15 +13,6 @@ filled word =
 
 abbrev pub name_of : List ℕ → Option Name
 name_of word = cond (nat_lt 8 (length word)) None (Some (filled word))
-
--- two names are the same if all their letters are
-abbrev pub same_name : Name → Name → Bool
-same_name one other = bytes_eq one.letters other.letters
-
--- the first of some rows, each with a name of its own, that has a given name
-abbrev pub first_named : {R : Type 0} → (R → Name) → List R → Option Name → Option R
-first_named own rows (Some name) = first_match (λ r. same_name (own r) name) rows
-first_named own rows None = None
 
 -- what stands before the first blank
 abbrev pub first_word : List ℕ → List ℕ

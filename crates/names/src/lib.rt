@@ -1,6 +1,9 @@
 //! Short names, of mnemonics and of commands, in a form that a table can be searched by.
+#![tactic(auto)]
+
 ghost use Rattle.std.specs.Prelude.{◌≡◌, ◌≤◌, length};
-ghost use Rattle.names.specs.Names.{letter_at, name_of, first_word, same_name};
+ghost use Rattle.std.specs.Str.{bytes_eq};
+ghost use Rattle.names.specs.Names.{letter_at, name_of, first_word};
 
 /// The most letters that a name can have.
 pub const LONGEST: usize = 8;
@@ -35,7 +38,7 @@ impl Name {
 
     /// Whether two names are the same.
     pub fn is(self, other: Name) -> bool
-        ensures { result ≡ same_name self other }
+        ensures { result ≡ bytes_eq self.letters other.letters }
     {
         self.letters == other.letters
     }

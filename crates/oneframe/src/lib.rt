@@ -1,4 +1,6 @@
 //! A memory of one frame.
+#![tactic(auto)]
+
 pub mod meaning;
 
 ghost use Rattle.std.specs.Prelude.{◌≡◌, replicate};

@@ -1,5 +1,5 @@
 -- A page table is a list of 64 entries.
-use Rattle.std.specs.Prelude.{ℕ, ◌+◌, ◌*◌, ◌/◌, ◌%◌, Bool, ◌&&◌, List, map, Option, ◌==◌, slice_index_or, slice_set}
+use Rattle.std.specs.Prelude.{ℕ, ◌+◌, ◌/◌, ◌%◌, Bool, ◌&&◌, List, map, Option, ◌==◌, slice_index_or, slice_set}
 use Rattle.std.specs.List.{range_with_len}
 use Rattle.search.specs.First.{first_match}
 use Rattle.paging.specs.declared.VirtualField.{VirtualField}

@@ -1,6 +1,8 @@
 //! A page table: 64 entries, each with a virtual field and a physical field.
+#![tactic(auto)]
+
 ghost use Rattle.std.specs.Prelude.{◌≡◌, ◌<◌};
-ghost use Rattle.paging.specs.Tables.{flushed, frame_of, is_for, is_read_only, is_valid, lookup_of, page_at, page_of, physical_of, physical_set, start_entries, start_entry, unused, virtual_of, virtual_set};
+ghost use Rattle.paging.specs.Tables.{flushed, frame_of, is_for, is_read_only, is_used, is_valid, lookup_of, page_at, page_of, physical_of, physical_set, start_entries, start_entry, unused, virtual_of, virtual_set};
 
 use search::{Entry, first_match};
 
@@ -13,9 +15,6 @@ pub const PAGE_SIZE: u16 = 1024;
 const PAGES: u8 = 64;
 
 const USED: u8 = 64;
-
-/// How many values a virtual field has.
-const VIRTUAL: u8 = 128;
 
 const FRAMES: u8 = 64;
 
@@ -43,6 +42,12 @@ impl VirtualField {
         ensures { result ≡ page_of self }
     {
         self.bits % PAGES
+    }
+
+    pub fn is_used(self) -> bool
+        ensures { result ≡ is_used self }
+    {
+        self.bits / USED % 2 == 1
     }
 }
 
@@ -144,9 +149,8 @@ impl Entry for PageEntry {
 
     ghost matched = { λ e page. is_for page.number e };
 
-    /// The entry is used and has the page: both are one comparison of the seven bits.
     fn matches(&self, page: Page) -> bool {
-        (self.virtual_field.bits % VIRTUAL) as u16 == USED as u16 + page.number as u16
+        self.virtual_field.is_used() && self.virtual_field.page() == page.number
     }
 }
 

@@ -1,4 +1,6 @@
 //! One search for every kind of entry: page table entries, instruction forms, names of commands.
+#![tactic(auto)]
+
 ghost use Rattle.std.specs.Prelude.{◌≡◌, Bool};
 ghost use Rattle.search.specs.First.{first_match};
 

@@ -1,4 +1,6 @@
 //! The monitor: reads commands, one a line, and writes the answer to each.
+#![tactic(auto)]
+
 mod bench;
 mod listing;
 mod pair;

@@ -122,7 +122,7 @@ fn calls_of(heap: Global, script: &[u8]) -> Result<Option<Vec<Call>>, AllocError
         };
         let split = split_line(lines);
         rest = split.rest;
-        match parse_command(split.first) {
+        match parse_command(split.word) {
             Command::Nothing => {}
             command => match call_of(command) {
                 Some(call) => calls.push(call)?,

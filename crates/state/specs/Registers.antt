@@ -1,5 +1,5 @@
 -- What instructions do to the R registers, PC and the ports.
-use Rattle.std.specs.Prelude.{ℕ, Bool, true, false, cond, ℤ, slice_index, slice_set}
+use Rattle.std.specs.Prelude.{ℕ, Bool, cond, ℤ, slice_index, slice_set}
 use Rattle.arithmetic.specs.declared.Operation.{Operation}
 use Rattle.arithmetic.specs.Words.{complement_of, high_byte_set, signed_added, word_of, words_added}
 use Rattle.arithmetic.specs.Values.{value_of}

@@ -1,5 +1,5 @@
 -- The state at the start, and states that differ in one part.
-use Rattle.std.specs.Prelude.{ℕ, Bool, true, false, List, replicate, slice_index, slice_set}
+use Rattle.std.specs.Prelude.{ℕ, Bool, false, List, replicate, slice_index, slice_set}
 use Rattle.instruction.specs.declared.Register.{Register}
 use Rattle.instruction.specs.declared.SystemRegister.{SystemRegister}
 use Rattle.instruction.specs.declared.SystemRegister.TheVariants.{SavedStatus, ReturnAddress, Event, Detail, Scratch, EntryAddress, StackPointer, Status}

@@ -1,4 +1,6 @@
 //! All that a machine holds beside its memory, and what instructions and entries do to it.
+#![tactic(auto)]
+
 mod entry;
 pub mod privileged;
 mod registers;

@@ -1,6 +1,6 @@
 -- The only word whose text a text can be, found from its mnemonic and the digits at the places of its operands. Whether it
 -- is that word's text is for the reader to compare.
-use Rattle.std.specs.Prelude.{ℕ, ◌+◌, ◌-◌, ◌*◌, ◌%◌, Bool, true, false, cond, List, [], ◌∷◌, length, Some, None, Option, ◌==◌, nat_lt, slice_index}
+use Rattle.std.specs.Prelude.{ℕ, ◌+◌, ◌-◌, ◌*◌, ◌%◌, Bool, false, cond, List, [], ◌∷◌, length, Some, None, Option, ◌==◌, nat_lt, slice_index}
 use Rattle.names.specs.Names.{first_word}
 use Rattle.forms.specs.Table.{row_of}
 use Rattle.text.specs.declared.syntax.Piece.{Piece}

@@ -1,8 +1,10 @@
 -- How the forms are written: a mnemonic, and a list of operands.
-use Rattle.std.specs.Prelude.{ℕ, List, [], ◌∷◌, codes, Option, slice_index_or}
+use Rattle.std.specs.Prelude.{ℕ, List, [], ◌∷◌, Some, None, codes, Option, slice_index_or}
 use Prim.Native.String.{String}
+use Rattle.std.specs.Str.{bytes_eq}
+use Rattle.search.specs.First.{first_match}
 use Rattle.names.specs.declared.Name.{Name}
-use Rattle.names.specs.Names.{filled, first_named, first_word, name_of}
+use Rattle.names.specs.Names.{filled, name_of, first_word}
 use Rattle.forms.specs.declared.Form.{Form}
 use Rattle.forms.specs.declared.Form.TheVariants as form
 use Rattle.forms.specs.Table.{form_number}
@@ -35,6 +37,7 @@ syntax_rows =
     row "AND" operands.ThreeRegisters form.And
     ∷ row "OR" operands.ThreeRegisters form.Or
     ∷ row "XOR" operands.ThreeRegisters form.Xor
+    ∷ row "NOT" operands.TwoRegisters form.Not
     ∷ row "ADD" operands.ThreeRegisters form.Add
     ∷ row "SUB" operands.ThreeRegisters form.Sub
     ∷ row "SHA" operands.ThreeRegisters form.Sha
@@ -44,9 +47,12 @@ syntax_rows =
     ∷ row "CMPEQ" operands.ThreeRegisters form.Cmpeq
     ∷ row "CMPLTU" operands.ThreeRegisters form.Cmpltu
     ∷ row "CMPLEU" operands.ThreeRegisters form.Cmpleu
-    ∷ row "MUL" operands.ThreeRegisters form.Mul
-    ∷ row "MULH" operands.ThreeRegisters form.Mulh
-    ∷ row "MULHU" operands.ThreeRegisters form.Mulhu
+    ∷ row "ADDI" operands.Immediate form.Addi
+    ∷ row "JZ" operands.TwoRegisters form.Jz
+    ∷ row "JNZ" operands.TwoRegisters form.Jnz
+    ∷ row "JMP" operands.MiddleRegister form.Jmp
+    ∷ row "JAL" operands.TwoRegisters form.Jal
+    ∷ row "CALLS" operands.MiddleRegister form.Calls
     ∷ row "LD" operands.Load form.Ld
     ∷ row "LDB" operands.Load form.Ldb
     ∷ row "ST" operands.Store form.St
@@ -57,24 +63,20 @@ syntax_rows =
     ∷ row "BNZ" operands.Number form.Bnz
     ∷ row "IN" operands.Byte form.In
     ∷ row "OUT" operands.Output form.Out
-    ∷ row "ADDI" operands.Immediate form.Addi
-    ∷ row "NOT" operands.TwoRegisters form.Not
-    ∷ row "JZ" operands.TwoRegisters form.Jz
-    ∷ row "JNZ" operands.TwoRegisters form.Jnz
-    ∷ row "JAL" operands.TwoRegisters form.Jal
+    ∷ row "MUL" operands.ThreeRegisters form.Mul
+    ∷ row "MULH" operands.ThreeRegisters form.Mulh
+    ∷ row "MULHU" operands.ThreeRegisters form.Mulhu
+    ∷ row "EI" operands.Nothing form.Ei
+    ∷ row "DI" operands.Nothing form.Di
+    ∷ row "RETI" operands.Nothing form.Reti
+    ∷ row "GETIID" operands.HighRegister form.Getiid
     ∷ row "RDS" operands.ReadSystem form.Rds
     ∷ row "WRS" operands.WriteSystem form.Wrs
     ∷ row "WRPI" operands.TwoRegisters form.Wrpi
     ∷ row "WRVI" operands.TwoRegisters form.Wrvi
     ∷ row "WRPD" operands.TwoRegisters form.Wrpd
     ∷ row "WRVD" operands.TwoRegisters form.Wrvd
-    ∷ row "JMP" operands.MiddleRegister form.Jmp
-    ∷ row "CALLS" operands.MiddleRegister form.Calls
     ∷ row "FLUSH" operands.MiddleRegister form.Flush
-    ∷ row "GETIID" operands.HighRegister form.Getiid
-    ∷ row "EI" operands.Nothing form.Ei
-    ∷ row "DI" operands.Nothing form.Di
-    ∷ row "RETI" operands.Nothing form.Reti
     ∷ row "HALT" operands.Nothing form.Halt
     ∷ []
 
@@ -84,7 +86,8 @@ syntax_of f = slice_index_or syntax_rows (form_number f) (record { name = record
 
 -- the syntax with a name
 abbrev pub with_name : Option Name → Option Syntax
-with_name name = first_named (λ (s : Syntax). s.name) syntax_rows name
+with_name (Some name) = first_match (λ (s : Syntax). bytes_eq s.name.letters name.letters) syntax_rows
+with_name None = None
 
 -- the syntax whose mnemonic a text begins with
 abbrev pub syntax_named : List ℕ → Option Syntax

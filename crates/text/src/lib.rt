@@ -1,4 +1,6 @@
 //! The text of a word, and the word of a text.
+#![tactic(auto)]
+
 ghost use Rattle.std.specs.Prelude.{◌≡◌};
 ghost use Rattle.text.specs.Calls.{refusal_number};
 

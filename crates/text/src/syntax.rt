@@ -1,6 +1,6 @@
 //! How the forms are written: a mnemonic, and a list of operands.
 ghost use Rattle.std.specs.Prelude.{◌≡◌, ◌≤◌, length};
-ghost use Rattle.names.specs.Names.{same_name};
+ghost use Rattle.std.specs.Str.{bytes_eq};
 ghost use Rattle.text.specs.Syntax.{pieces_of, syntax_rows, syntax_of, syntax_named};
 
 use forms::Form;
@@ -62,7 +62,7 @@ pub struct Syntax {
 impl Entry for Syntax {
     type Key = Name;
 
-    ghost matched = { λ syntax name. same_name syntax.name name };
+    ghost matched = { λ syntax name. bytes_eq syntax.name.letters name.letters };
 
     fn matches(&self, name: Name) -> bool {
         self.name.is(name)
@@ -90,6 +90,13 @@ const SYNTAX: [Syntax; 44] = [
         },
         operands: Operands::ThreeRegisters,
         form: Form::Xor,
+    },
+    Syntax {
+        name: Name {
+            letters: *b"NOT     ",
+        },
+        operands: Operands::TwoRegisters,
+        form: Form::Not,
     },
     Syntax {
         name: Name {
@@ -156,24 +163,45 @@ const SYNTAX: [Syntax; 44] = [
     },
     Syntax {
         name: Name {
-            letters: *b"MUL     ",
+            letters: *b"ADDI    ",
         },
-        operands: Operands::ThreeRegisters,
-        form: Form::Mul,
+        operands: Operands::Immediate,
+        form: Form::Addi,
     },
     Syntax {
         name: Name {
-            letters: *b"MULH    ",
+            letters: *b"JZ      ",
         },
-        operands: Operands::ThreeRegisters,
-        form: Form::Mulh,
+        operands: Operands::TwoRegisters,
+        form: Form::Jz,
     },
     Syntax {
         name: Name {
-            letters: *b"MULHU   ",
+            letters: *b"JNZ     ",
         },
-        operands: Operands::ThreeRegisters,
-        form: Form::Mulhu,
+        operands: Operands::TwoRegisters,
+        form: Form::Jnz,
+    },
+    Syntax {
+        name: Name {
+            letters: *b"JMP     ",
+        },
+        operands: Operands::MiddleRegister,
+        form: Form::Jmp,
+    },
+    Syntax {
+        name: Name {
+            letters: *b"JAL     ",
+        },
+        operands: Operands::TwoRegisters,
+        form: Form::Jal,
+    },
+    Syntax {
+        name: Name {
+            letters: *b"CALLS   ",
+        },
+        operands: Operands::MiddleRegister,
+        form: Form::Calls,
     },
     Syntax {
         name: Name {
@@ -247,38 +275,52 @@ const SYNTAX: [Syntax; 44] = [
     },
     Syntax {
         name: Name {
-            letters: *b"ADDI    ",
+            letters: *b"MUL     ",
         },
-        operands: Operands::Immediate,
-        form: Form::Addi,
+        operands: Operands::ThreeRegisters,
+        form: Form::Mul,
     },
     Syntax {
         name: Name {
-            letters: *b"NOT     ",
+            letters: *b"MULH    ",
         },
-        operands: Operands::TwoRegisters,
-        form: Form::Not,
+        operands: Operands::ThreeRegisters,
+        form: Form::Mulh,
     },
     Syntax {
         name: Name {
-            letters: *b"JZ      ",
+            letters: *b"MULHU   ",
         },
-        operands: Operands::TwoRegisters,
-        form: Form::Jz,
+        operands: Operands::ThreeRegisters,
+        form: Form::Mulhu,
     },
     Syntax {
         name: Name {
-            letters: *b"JNZ     ",
+            letters: *b"EI      ",
         },
-        operands: Operands::TwoRegisters,
-        form: Form::Jnz,
+        operands: Operands::Nothing,
+        form: Form::Ei,
     },
     Syntax {
         name: Name {
-            letters: *b"JAL     ",
+            letters: *b"DI      ",
         },
-        operands: Operands::TwoRegisters,
-        form: Form::Jal,
+        operands: Operands::Nothing,
+        form: Form::Di,
+    },
+    Syntax {
+        name: Name {
+            letters: *b"RETI    ",
+        },
+        operands: Operands::Nothing,
+        form: Form::Reti,
+    },
+    Syntax {
+        name: Name {
+            letters: *b"GETIID  ",
+        },
+        operands: Operands::HighRegister,
+        form: Form::Getiid,
     },
     Syntax {
         name: Name {
@@ -324,52 +366,10 @@ const SYNTAX: [Syntax; 44] = [
     },
     Syntax {
         name: Name {
-            letters: *b"JMP     ",
-        },
-        operands: Operands::MiddleRegister,
-        form: Form::Jmp,
-    },
-    Syntax {
-        name: Name {
-            letters: *b"CALLS   ",
-        },
-        operands: Operands::MiddleRegister,
-        form: Form::Calls,
-    },
-    Syntax {
-        name: Name {
             letters: *b"FLUSH   ",
         },
         operands: Operands::MiddleRegister,
         form: Form::Flush,
-    },
-    Syntax {
-        name: Name {
-            letters: *b"GETIID  ",
-        },
-        operands: Operands::HighRegister,
-        form: Form::Getiid,
-    },
-    Syntax {
-        name: Name {
-            letters: *b"EI      ",
-        },
-        operands: Operands::Nothing,
-        form: Form::Ei,
-    },
-    Syntax {
-        name: Name {
-            letters: *b"DI      ",
-        },
-        operands: Operands::Nothing,
-        form: Form::Di,
-    },
-    Syntax {
-        name: Name {
-            letters: *b"RETI    ",
-        },
-        operands: Operands::Nothing,
-        form: Form::Reti,
     },
     Syntax {
         name: Name {

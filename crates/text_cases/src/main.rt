@@ -1,4 +1,6 @@
 //! Compares texts: a table of samples, and all 65,536 words written and read back.
+#![tactic(auto)]
+
 use forms::form_of;
 use text::{LINE, read_text, write_text};
 

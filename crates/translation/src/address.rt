@@ -77,7 +77,7 @@ fn check_accessible(access: Access, mark: Mark, at: u16) -> Result<u16, Event>
 }
 
 fn fetch_through<Mem: Memory>(entry: PageEntry, memory: &Mem, address: u16) -> Result<u16, Event>
-    ensures { result ≡ fetch_through entry (marks memory.now) address }
+    ensures { result ≡ fetch_through entry (Mem.marks memory.now) address }
 {
     if !entry.physical_field.is_valid() {
         return Err(Event::InstructionNotValid);
@@ -92,7 +92,7 @@ fn data_through<Mem: Memory>(
     address: u16,
     access: Access,
 ) -> Result<u16, Event>
-    ensures { result ≡ data_through access entry (marks memory.now) address }
+    ensures { result ≡ data_through access entry (Mem.marks memory.now) address }
 {
     if !entry.physical_field.is_valid() {
         return Err(Event::DataNotValid);
@@ -111,7 +111,7 @@ pub fn fetch_address<Mem: Memory>(
     memory: &Mem,
     address: u16,
 ) -> Result<u16, Event>
-    ensures { result ≡ fetch_address user table.now.entries (marks memory.now) address }
+    ensures { result ≡ fetch_address user table.now.entries (Mem.marks memory.now) address }
 {
     if is_misaligned(Width::Word, address) {
         return Err(Event::OddAddress);
@@ -134,7 +134,7 @@ pub fn data_address<Mem: Memory>(
     access: Access,
     width: Width,
 ) -> Result<u16, Event>
-    ensures { result ≡ data_address user table.now.entries (marks memory.now) access width address }
+    ensures { result ≡ data_address user table.now.entries (Mem.marks memory.now) access width address }
 {
     if is_misaligned(width, address) {
         return Err(Event::OddAddress);

@@ -9,12 +9,12 @@ returns g c =
     let marks = g.Mem.Memory.marks c.args.memory.now in
     let bytes = g.Mem.Memory.bytes c.args.memory.now in
     record {
-      answer = c.store-value.ensures.answer;
-      bytes = c.store-value.ensures.bytes;
-      marks = c.store-value.ensures.marks;
-      rest = c.store-value.ensures.rest;
+      answer = c.store_value.ensures.answer;
+      bytes = c.store_value.ensures.bytes;
+      marks = c.store_value.ensures.marks;
+      rest = c.store_value.ensures.rest;
       confined =
           subst (λ (after : ℕ → ℕ). Confined c.args.user entries marks c.args.address bytes after)
-          (sym c.store-value.ensures.bytes)
+          (sym c.store_value.ensures.bytes)
           (confined c.args.user entries marks bytes c.args.width c.args.address c.args.value);
     }

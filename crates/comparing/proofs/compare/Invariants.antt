@@ -8,10 +8,10 @@ use Rattle.comparing.proofs.compare.Given as goal
 abbrev pub invariant-loop-made : goal.invariant-loop-made
 invariant-loop-made g l =
     (remaining l.made l.calls l.exchanges
-    (world l.ours.state (g.Ours.Memory.marks l.our-memory) (g.Ours.Memory.bytes l.our-memory))
-    (world l.theirs.state (g.Theirs.Memory.marks l.their-memory) (g.Theirs.Memory.bytes l.their-memory))
+    (world l.ours.state (g.Ours.Memory.marks l.our_memory) (g.Ours.Memory.bytes l.our_memory))
+    (world l.theirs.state (g.Theirs.Memory.marks l.their_memory) (g.Theirs.Memory.bytes l.their_memory))
     ≡ compare_of l.calls l.initial.exchanges
-    (world l.initial.ours.state (g.Ours.Memory.marks l.initial.our-memory) (g.Ours.Memory.bytes l.initial.our-memory))
-    (world l.initial.theirs.state (g.Theirs.Memory.marks l.initial.their-memory) (g.Theirs.Memory.bytes l.initial.their-memory)))
-    × (g.Ours.Memory.rest l.our-memory ≡ g.Ours.Memory.rest l.initial.our-memory)
-    × (g.Theirs.Memory.rest l.their-memory ≡ g.Theirs.Memory.rest l.initial.their-memory)
+    (world l.initial.ours.state (g.Ours.Memory.marks l.initial.our_memory) (g.Ours.Memory.bytes l.initial.our_memory))
+    (world l.initial.theirs.state (g.Theirs.Memory.marks l.initial.their_memory) (g.Theirs.Memory.bytes l.initial.their_memory)))
+    × (g.Ours.Memory.rest l.our_memory ≡ g.Ours.Memory.rest l.initial.our_memory)
+    × (g.Theirs.Memory.rest l.their_memory ≡ g.Theirs.Memory.rest l.initial.their_memory)

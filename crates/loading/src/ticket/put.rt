@@ -23,12 +23,12 @@ impl Ticket {
         body: &[u8],
     ) -> Result<u16, PutFault>
         requires { self.old.spent ≡ false }
-        ensures answer { result ≡ put_of self.old.sum (marks memory.old) address body.now }
+        ensures answer { result ≡ put_of self.old.sum (Mem.marks memory.old) address body.now }
         ensures sum { self.new.sum ≡ sum_after self.old.sum result }
         ensures spent { self.new.spent ≡ false }
-        ensures bytes { bytes memory.new ≡ bytes_after (bytes memory.old) address body.now result }
-        ensures marks { marks memory.new ≡ marks memory.old }
-        ensures rest { rest memory.new ≡ rest memory.old }
+        ensures bytes { Mem.bytes memory.new ≡ bytes_after (Mem.bytes memory.old) address body.now result }
+        ensures marks { Mem.marks memory.new ≡ Mem.marks memory.old }
+        ensures rest { Mem.rest memory.new ≡ Mem.rest memory.old }
     {
         let count = body.len();
         if count == 0 || count > LONGEST_BODY {
@@ -47,7 +47,7 @@ impl Ticket {
 
 /// Whether the frame of `address` is plain.
 fn check_frame<Mem: Memory>(memory: &Mem, address: u16) -> Result<(), PlaceFault>
-    ensures { result ≡ placed address (write_answer (marks memory.now) address) }
+    ensures { result ≡ placed address (write_answer (Mem.marks memory.now) address) }
 {
     let fault = match memory.mark(address) {
         Mark::Plain => return Ok(()),
@@ -65,7 +65,7 @@ fn check_frame<Mem: Memory>(memory: &Mem, address: u16) -> Result<(), PlaceFault
 fn check_place<Mem: Memory>(memory: &Mem, address: u16, count: usize) -> Result<(), PlaceFault>
     requires some { 0 < count }
     requires few { count ≤ 1024 }
-    ensures { result ≡ place_of (marks memory.now) address count }
+    ensures { result ≡ place_of (Mem.marks memory.now) address count }
 {
     let start = address as usize;
     let end = start + count;
@@ -86,10 +86,10 @@ fn check_place<Mem: Memory>(memory: &Mem, address: u16, count: usize) -> Result<
 /// Writes `body` from `address` on, where all frames are plain.
 fn write_body<Mem: Memory>(memory: &mut Mem, address: u16, body: &[u8])
     requires room { address + length body.now ≤ 65536 }
-    requires plain { AllPlain (marks memory.old) address (length body.now) }
-    ensures bytes { bytes memory.new ≡ overlaid (bytes memory.old) address body.now }
-    ensures marks { marks memory.new ≡ marks memory.old }
-    ensures rest { rest memory.new ≡ rest memory.old }
+    requires plain { AllPlain (Mem.marks memory.old) address (length body.now) }
+    ensures bytes { Mem.bytes memory.new ≡ overlaid (Mem.bytes memory.old) address body.now }
+    ensures marks { Mem.marks memory.new ≡ Mem.marks memory.old }
+    ensures rest { Mem.rest memory.new ≡ Mem.rest memory.old }
 {
     'bytes: for i in 0..body.len() {
         let _ = memory.write(address + i as u16, body[i]);

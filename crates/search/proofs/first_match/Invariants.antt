@@ -1,4 +1,4 @@
-use Rattle.std.proofs.Common.{◌≡◌, ℕ, length}
+use Rattle.std.proofs.Common.{◌≡◌, length}
 use Rattle.search.specs.First.{first_match}
 use Rattle.search.proofs.first_match.Given as goal
 

@@ -18,8 +18,8 @@ records-preserved g c =
     let p = c.records.reader.position in
     let sum = c.records.ticket.sum in
     let k = c.records.blocks in
-    let done = turn (Ok Put) c.take-record.new.ticket.sum (g.Mem.Memory.bytes c.take-record.new.memory) c.take-record.new.reader.position in
-    let t = ap (λ (x : Step). turn (Ok x) c.take-record.new.ticket.sum (g.Mem.Memory.bytes c.take-record.new.memory) c.take-record.new.reader.position) (sym c.in-Put.is)
+    let done = turn (Ok Put) c.take_record.new.ticket.sum (g.Mem.Memory.bytes c.take_record.new.memory) c.take_record.new.reader.position in
+    let t = ap (λ (x : Step). turn (Ok x) c.take_record.new.ticket.sum (g.Mem.Memory.bytes c.take_record.new.memory) c.take_record.new.reader.position) (sym c.in-Put.is)
     ∙ turn_at bs p sum s.turn i.4 i.0 in
     let m = put_moves ms bs f p sum t in
     let kf : k ≤ length f = omega arith in (
@@ -43,10 +43,10 @@ returns-in-End g c =
     let sum = c.records.ticket.sum in
     let k = c.records.blocks in
     let said = c.in-End.sum in
-    let held = c.take-record.new.ticket.sum in
-    let after = g.Mem.Memory.bytes c.take-record.new.memory in
-    let done = turn (Ok (End said)) held after c.take-record.new.reader.position in
-    let t = ap (λ (x : Step). turn (Ok x) held after c.take-record.new.reader.position) (sym c.in-End.is)
+    let held = c.take_record.new.ticket.sum in
+    let after = g.Mem.Memory.bytes c.take_record.new.memory in
+    let done = turn (Ok (End said)) held after c.take_record.new.reader.position in
+    let t = ap (λ (x : Step). turn (Ok x) held after c.take_record.new.reader.position) (sym c.in-End.is)
     ∙ turn_at bs p sum s.turn i.4 i.0 in
     let kf : k ≤ length f = omega arith in
     record {
@@ -68,8 +68,8 @@ returns-in-Err g c =
     let p = c.records.reader.position in
     let sum = c.records.ticket.sum in
     let k = c.records.blocks in
-    let after = g.Mem.Memory.bytes c.take-record.new.memory in
-    let done = turn (Err c.in-Err.fault) c.take-record.new.ticket.sum after c.take-record.new.reader.position in
+    let after = g.Mem.Memory.bytes c.take_record.new.memory in
+    let done = turn (Err c.in-Err.fault) c.take_record.new.ticket.sum after c.take_record.new.reader.position in
     let t = turn_at bs p sum s.turn i.4 i.0 in
     let kf : k ≤ length f = omega arith in
     record {

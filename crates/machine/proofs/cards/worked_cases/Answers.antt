@@ -1,4 +1,4 @@
-use Rattle.std.proofs.Common.{◌≡◌, refl}
+use Rattle.std.proofs.Common.{refl}
 use Rattle.machine.proofs.cards.worked_cases.Goals as goal
 
 pub returns : goal.returns

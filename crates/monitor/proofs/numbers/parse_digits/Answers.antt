@@ -8,8 +8,8 @@ returns-then-low-base c =
       bound = tt;
       value = sym
           (c.loop-digit.invariant.1
-          ∙ value_bad c.args.base c.args.most c.loop-digit.value c.args.digits.now c.loop-digit.digit-index c.digit-value-low.result
-          (omega arith) c.digit-value-low.ensures.value c.if-low-base.true);
+          ∙ value_bad c.args.base c.args.most c.loop-digit.value c.args.digits.now c.loop-digit.digit-index c.digit_value-low.result
+          (omega arith) c.digit_value-low.ensures.value c.if-low-base.true);
     }
 
 pub returns-then-value-most : goal.returns-then-value-most
@@ -18,16 +18,16 @@ returns-then-value-most c =
       bound = tt;
       value = sym
           (c.loop-digit.invariant.1
-          ∙ value_large c.args.base c.args.most c.loop-digit.value c.args.digits.now c.loop-digit.digit-index c.digit-value-low.result
-          (omega arith) c.digit-value-low.ensures.value (omega arith) c.if-value-most.true);
+          ∙ value_large c.args.base c.args.most c.loop-digit.value c.args.digits.now c.loop-digit.digit-index c.digit_value-low.result
+          (omega arith) c.digit_value-low.ensures.value (omega arith) c.if-value-most.true);
     }
 
 pub loop-digit-preserved : goal.loop-digit-preserved
 loop-digit-preserved c = (
   c.if-value-most.false,
   c.loop-digit.invariant.1
-      ∙ value_more c.args.base c.args.most c.loop-digit.value c.args.digits.now c.loop-digit.digit-index c.digit-value-low.result
-      (omega arith) c.digit-value-low.ensures.value (omega arith) c.if-value-most.false,
+      ∙ value_more c.args.base c.args.most c.loop-digit.value c.args.digits.now c.loop-digit.digit-index c.digit_value-low.result
+      (omega arith) c.digit_value-low.ensures.value (omega arith) c.if-value-most.false,
 )
 
 pub returns : goal.returns

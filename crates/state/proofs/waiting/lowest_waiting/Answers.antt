@@ -1,4 +1,4 @@
-use Rattle.std.proofs.Common.{◌≡◌, ◌<◌, ◌≤◌, length, sym, ◌∙◌, arith}
+use Rattle.std.proofs.Common.{◌<◌, ◌≤◌, length, sym, ◌∙◌, arith}
 use Rattle.state.proofs.Lines.{lowest_here, lowest_more, lowest_none}
 use Rattle.state.proofs.waiting.lowest_waiting.Goals as goal
 

@@ -7,7 +7,7 @@ loop-piece-preserved c = (
   omega arith,
   omega arith,
   fields_more c.args.pieces.now c.loop-piece.piece-index _ c.args.text.now c.loop-piece.i c.loop-piece.sum
-      c.field-at-sum.result c.width-at-i.result _ (omega arith) c.field-at-sum.ensures.value c.width-at-i.ensures.value
+      c.field_at-sum.result c.width_at-i.result _ (omega arith) c.field_at-sum.ensures.value c.width_at-i.ensures.value
       c.loop-piece.invariant.2,
 )
 

@@ -1,4 +1,4 @@
-use Rattle.std.proofs.Common.{◌≡◌, ℕ, ◌-◌, ◌<◌, ◌≤◌, List, length, take, Ok, Err, Result, sym, refl, ap, ◌∙◌, arith}
+use Rattle.std.proofs.Common.{◌≡◌, ℕ, ◌-◌, ◌<◌, List, length, take, Ok, Err, Result, sym, refl, ap, ◌∙◌, arith}
 use native.Mathlib.Nat.{sub-zero}
 use Rattle.std.proofs.lemmas.Slice.Eq.{slice_eq-Decides}
 use Rattle.std.proofs.lemmas.Bool.Decides.{not_from_Decides, Decides-eqb}
@@ -36,21 +36,21 @@ pub returns-then-eq : goal.returns-then-eq
 returns-then-eq c =
     let text = c.args.text.now in
     let word = c.candidate-word.result in
-    let line = c.text-line-line.result in
+    let line = c.text_line-line.result in
     let same : line_text line ≡ text = sym (cut line) ∙ (slice_eq-Decides Decides-eqb _ _ _ c.eq.ensures).0 c.if-eq.true in
     let reads : ReadsAs text (Ok word)
-    = (omega arith, sym c.text-line-line.ensures.text ∙ same, λ v h p. one text word v c.candidate-word.ensures h p) in
+    = (omega arith, sym c.text_line-line.ensures.text ∙ same, λ v h p. one text word v c.candidate-word.ensures h p) in
     record { word = reads; back = back text (Ok word) reads }
 
 pub returns-else-eq : goal.returns-else-eq
 returns-else-eq c =
     let text = c.args.text.now in
     let word = c.candidate-word.result in
-    let line = c.text-line-line.result in
+    let line = c.text_line-line.result in
     let reads : ReadsAs text (Err NoWord)
     = (
       refl,
       λ v h p. not_from_Decides _ (slice_eq-Decides Decides-eqb (take (line.used - 0) line.bytes) text _ c.eq.ensures) c.if-eq.false
-          (cut line ∙ c.text-line-line.ensures.text ∙ ap text_of (sym (one text word v c.candidate-word.ensures h p)) ∙ p),
+          (cut line ∙ c.text_line-line.ensures.text ∙ ap text_of (sym (one text word v c.candidate-word.ensures h p)) ∙ p),
     ) in
     record { word = reads; back = back text (Err NoWord) reads }

@@ -20,17 +20,17 @@ pub returns-then-operands-gt0 : goal.returns-then-operands-gt0
 returns-then-operands-gt0 c =
     let word = c.args.word in
     let ps = c.pieces-operands.result.now in
-    grow_join [] (line_text c.push-all.new.line) c.spelling.result.now (32 ∷ pieces_text word ps) (line_text c.push-pieces.new.line) c.push-all.ensures
-    (grow_join (line_text c.push-all.new.line) (line_text c.push.new.line) (32 ∷ []) (pieces_text word ps) (line_text c.push-pieces.new.line)
-    c.push.ensures c.push-pieces.ensures)
+    grow_join [] (line_text c.push_all.new.line) c.spelling.result.now (32 ∷ pieces_text word ps) (line_text c.push_pieces.new.line) c.push_all.ensures
+    (grow_join (line_text c.push_all.new.line) (line_text c.push.new.line) (32 ∷ []) (pieces_text word ps) (line_text c.push_pieces.new.line)
+    c.push.ensures c.push_pieces.ensures)
     ∙ ap (λ (t : List ℕ). take 24 (c.spelling.result.now ++ t)) (sym (operands_some word ps (omega arith)))
-    ∙ joined word _ (syntax_of c.args.form) _ ps c.syntax-of-syntax.ensures c.spelling.ensures.letters c.pieces-operands.ensures.pieces
+    ∙ joined word _ (syntax_of c.args.form) _ ps c.syntax_of-syntax.ensures c.spelling.ensures.letters c.pieces-operands.ensures.pieces
 
 pub returns-else-operands-gt0 : goal.returns-else-operands-gt0
 returns-else-operands-gt0 c =
     let word = c.args.word in
     let ps = c.pieces-operands.result.now in
-    c.push-all.ensures
+    c.push_all.ensures
     ∙ ap (λ (t : List ℕ). take 24 t) (sym (append-nil c.spelling.result.now))
     ∙ ap (λ (t : List ℕ). take 24 (c.spelling.result.now ++ t)) (sym (operands_none word ps c.if-operands-gt0.false))
-    ∙ joined word _ (syntax_of c.args.form) _ ps c.syntax-of-syntax.ensures c.spelling.ensures.letters c.pieces-operands.ensures.pieces
+    ∙ joined word _ (syntax_of c.args.form) _ ps c.syntax_of-syntax.ensures c.spelling.ensures.letters c.pieces-operands.ensures.pieces

@@ -1,5 +1,5 @@
-use Rattle.std.proofs.Common.{◌≡◌, ◌++◌, take}
-use Rattle.text.specs.Lines.{line_text, Grown}
+use Rattle.std.proofs.Common.{take}
+use Rattle.text.specs.Lines.{Grown}
 use Rattle.text.proofs.writing.push_all.Given as goal
 
 abbrev pub invariant-loop-byte : goal.invariant-loop-byte

@@ -12,8 +12,8 @@ loop-piece-init c = grow_none c.args.line.now.bytes c.args.line.now.used (omega 
 
 pub loop-piece-preserved : goal.loop-piece-preserved
 loop-piece-preserved c =
-    grow_pieces (line_text c.args.line.now) (line_text c.loop-piece.line) (line_text c.push-piece.new.line) c.args.word
-    c.args.pieces.now c.loop-piece.piece-index _ (omega arith) c.loop-piece.invariant c.push-piece.ensures
+    grow_pieces (line_text c.args.line.now) (line_text c.loop-piece.line) (line_text c.push_piece.new.line) c.args.word
+    c.args.pieces.now c.loop-piece.piece-index _ (omega arith) c.loop-piece.invariant c.push_piece.ensures
 
 pub returns : goal.returns
 returns c =

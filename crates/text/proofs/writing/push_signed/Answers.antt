@@ -1,4 +1,4 @@
-use Rattle.std.proofs.Common.{◌≡◌, ℕ, ◌-◌, ◌*◌, ◌≤◌, Bool, false, cond, ltb, List, [], ◌∷◌, ◌++◌, take, sym, ap, ◌∙◌, arith, rules}
+use Rattle.std.proofs.Common.{◌≡◌, ℕ, ◌-◌, ◌*◌, ◌≤◌, Bool, false, cond, ltb, List, [], ◌∷◌, ◌++◌, take, sym, ap, ◌∙◌, rules}
 use Rattle.text.specs.Text.{decimal, signed_decimal}
 use Rattle.text.specs.Lines.{line_text}
 use Rattle.text.proofs.Growing.{grow_join}
@@ -12,5 +12,5 @@ below half n h =
 pub returns-else-n-half : goal.returns-else-n-half
 returns-else-n-half c =
     grow_join (line_text c.args.line.now) (line_text c.push.new.line) (45 ∷ []) (decimal (2 * c.args.half - c.args.n))
-    (line_text c.push-decimal-else-n-half.new.line) c.push.ensures c.push-decimal-else-n-half.ensures
+    (line_text c.push_decimal-else-n-half.new.line) c.push.ensures c.push_decimal-else-n-half.ensures
     ∙ ap (λ (t : List ℕ). take 24 (line_text c.args.line.now ++ t)) (sym (below c.args.half c.args.n c.if-n-half.false))

@@ -6,16 +6,16 @@ use Rattle.text.proofs.writing.text_line.Goals as goal
 
 pub returns-in-Some : goal.returns-in-Some
 returns-in-Some c =
-    let e : form_of c.args.word ≡ Some c.in-Some.row = sym c.form-of.ensures ∙ c.in-Some.is in
+    let e : form_of c.args.word ≡ Some c.in-Some.row = sym c.form_of.ensures ∙ c.in-Some.is in
     record {
-      text = whole c.args.word (Some c.in-Some.row) (line_text c.form-line.result) (omega arith) e c.form-line.ensures;
+      text = whole c.args.word (Some c.in-Some.row) (line_text c.form_line.result) (omega arith) e c.form_line.ensures;
       bound = text_short c.args.word (omega arith);
     }
 
 pub returns-in-None : goal.returns-in-None
 returns-in-None c =
-    let e : form_of c.args.word ≡ None = sym c.form-of.ensures ∙ c.in-None.is in
+    let e : form_of c.args.word ≡ None = sym c.form_of.ensures ∙ c.in-None.is in
     record {
-      text = whole c.args.word None (line_text c.raw-line.result) (omega arith) e c.raw-line.ensures;
+      text = whole c.args.word None (line_text c.raw_line.result) (omega arith) e c.raw_line.ensures;
       bound = text_short c.args.word (omega arith);
     }

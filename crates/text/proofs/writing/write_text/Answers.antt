@@ -1,7 +1,6 @@
-use Rattle.std.proofs.Common.{◌≡◌, ℕ, ◌-◌, ◌≤◌, Bool, false, cond, ltb, List, ◌++◌, length, take, drop, Ok, Err, Result, sym, ap, ◌∙◌, ap₂, arith, rules}
+use Rattle.std.proofs.Common.{◌≡◌, ℕ, ◌-◌, ◌≤◌, Bool, false, cond, ltb, List, ◌++◌, length, take, drop, Ok, Err, sym, ap, ◌∙◌, ap₂, arith, rules}
 use native.Mathlib.Nat.{sub-zero}
 use Rattle.std.proofs.lemmas.List.{length-take-le}
-use Rattle.text.specs.declared.TextRefusal.{TextRefusal}
 use Rattle.text.specs.declared.TextRefusal.TheVariants.{ShortBuffer}
 use Rattle.text.specs.Text.{text_of}
 use Rattle.text.specs.Calls.{write_answer, written}
@@ -27,15 +26,15 @@ module _ (word n : ℕ) (buffer : List ℕ) (long : 24 ≤ length buffer) (e : l
 
 pub returns : goal.returns
 returns c =
-    let line = c.text-line-line.result in
-    let text = c.text-line-line.ensures.text in
+    let line = c.text_line-line.result in
+    let text = c.text_line-line.ensures.text in
     let size = length-take-le line.used line.bytes (search rules) in
     let e : length (text_of c.args.word) ≡ line.used = ap (λ (t : List ℕ). length t) (sym text) ∙ size in
     let cut : take (line.used - 0) line.bytes ≡ text_of c.args.word = ap (λ (n : ℕ). take n line.bytes) (sub-zero line.used) ∙ text in
     record {
       answer = answered c.args.word line.used c.args.buffer.now c.if-buffer-lt-LINE.false e;
       buffer =
-          ap₂ (λ (t : List ℕ) (n : ℕ). t ++ drop n c.args.buffer.now) (c.copy-from-slice.ensures.after ∙ cut) (sub-zero line.used)
+          ap₂ (λ (t : List ℕ) (n : ℕ). t ++ drop n c.args.buffer.now) (c.copy_from_slice.ensures.after ∙ cut) (sub-zero line.used)
           ∙ laid c.args.word line.used c.args.buffer.now c.if-buffer-lt-LINE.false e;
-      bound = c.text-line-line.ensures.bound;
+      bound = c.text_line-line.ensures.bound;
     }

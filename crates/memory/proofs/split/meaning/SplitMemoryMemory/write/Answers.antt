@@ -14,5 +14,5 @@ returns-in-Plain c =
     let room : a < 65536 = omega arith in
     let p : Plain ≡ split_marks (length fixed) (length plain) (a / 1024) = c.in-Plain.ensures.answer in
     let bytes = split_put fixed plain a c.args.byte room p ∙ ap (λ (m : Mark). written_by m (split_bytes fixed plain) a c.args.byte) p in
-    let rest = put_rest fixed plain a c.args.byte room p c.args.self.now.plain.name in
+    let rest = put_rest fixed plain a c.args.byte room p c.args.self.now.plain.ghost_name in
     record { answer = search rules; bytes = search rules; marks = search rules; rest = search rules }

@@ -1,7 +1,6 @@
 -- A step keeps the rules that no machine breaks.
-use Rattle.std.specs.Prelude.{◌≡◌, ℕ, zero, suc, ◌+◌, ◌%◌, ◌<◌, Bool, true, false, cond, not, ◌&&◌, List, [], ◌∷◌, map, Some, None, Ok, Err, Option, Result, ◌==◌, ◌≢◌, nat_lt, slice_index_or, slice_set, refl}
-use Rattle.std.proofs.Common.{ap, sym, ◌∙◌, subst, arith}
-use Rattle.std.proofs.lemmas.Bool.{and_from, and_parts, cond-true, eq-eqb, eqb-false, lt-ltb, ltb-true}
+use Rattle.std.proofs.Common.{◌≡◌, ℕ, zero, suc, ◌%◌, ◌<◌, Bool, true, false, cond, not, eqb, ltb, List, [], ◌∷◌, map, get_or, set, Some, None, Ok, Err, Option, Result, sym, refl, ap, subst, arith}
+use Rattle.std.proofs.lemmas.Bool.{and_from, and_parts, eq-eqb, eqb-false, lt-ltb, ltb-true}
 use Rattle.arithmetic.specs.Words.{signed_added, words_added}
 use Rattle.instruction.specs.declared.EntryField.{EntryField}
 use Rattle.instruction.specs.declared.EntryField.TheVariants.{Physical, Virtual}
@@ -53,8 +52,8 @@ pub record Bounded (s : SystemRegisters) : Type 0 where
 
 bounded : (s : SystemRegisters) → system_sound s ≡ true → Bounded s
 bounded s h =
-    let a = and_parts (nat_lt s.saved_status 4) _ h in
-    let b = and_parts (nat_lt s.status 4) _ a.1 in
+    let a = and_parts (ltb s.saved_status 4) _ h in
+    let b = and_parts (ltb s.status 4) _ a.1 in
     record { saved = ltb-true _ _ a.0; status = ltb-true _ _ b.0; event = ltb-true _ _ b.1 }
 
 bounded_sound : (s : SystemRegisters) → Bounded s → system_sound s ≡ true
@@ -93,7 +92,7 @@ entered_going e detail s g =
     (bounded_sound (entered e detail s).system (record { saved = (bounded s.system g.0).status; status = omega arith; event = code_small e }), g.1, g.2)
 
 -- the tables
-entries_set : (es : List PageEntry) (i : ℕ) (e : PageEntry) → entries_sound es ≡ true → entry_sound e ≡ true → entries_sound (slice_set es i e) ≡ true
+entries_set : (es : List PageEntry) (i : ℕ) (e : PageEntry) → entries_sound es ≡ true → entry_sound e ≡ true → entries_sound (set es i e) ≡ true
 entries_set [] i e h k = refl
 entries_set (x ∷ xs) zero e h k = and_from _ _ k (and_parts (entry_sound x) _ h).1
 entries_set (x ∷ xs) (suc i) e h k =
@@ -102,12 +101,12 @@ entries_set (x ∷ xs) (suc i) e h k =
 entries_at : (es : List PageEntry) (i : ℕ) → entries_sound es ≡ true → entry_sound (entry_at es i) ≡ true
 entries_at es i h = go es (i % 64) h
   where
-    go : (xs : List PageEntry) (k : ℕ) → entries_sound xs ≡ true → entry_sound (slice_index_or xs k blank_entry) ≡ true
+    go : (xs : List PageEntry) (k : ℕ) → entries_sound xs ≡ true → entry_sound (get_or xs k blank_entry) ≡ true
     go [] k p = refl
     go (x ∷ xs) zero p = (and_parts (entry_sound x) _ p).0
     go (x ∷ xs) (suc k) p = go xs k (and_parts (entry_sound x) _ p).1
 
-virtual_small : (word : ℕ) → nat_lt (virtual_of word).bits 128 ≡ true
+virtual_small : (word : ℕ) → ltb (virtual_of word).bits 128 ≡ true
 virtual_small word = lt-ltb _ _ (omega arith)
 
 field_sound : (f : EntryField) (index word : ℕ) (es : List PageEntry) → entries_sound es ≡ true → entries_sound (field_set f index word es) ≡ true
@@ -161,7 +160,7 @@ good_sound answer.Ran s g = going_sound s g
 good_sound answer.Halted s g = g
 good_sound (answer.Entered e) s g = going_sound s g
 
-pub good_going : (r : StepAnswer) (s : State) → Good r s → (r ≢ answer.Halted) → Going s
+pub good_going : (r : StepAnswer) (s : State) → Good r s → (r ≡ answer.Halted → ⊥) → Going s
 good_going answer.Ran s g n = g
 good_going answer.Halted s g n = absurd (n refl)
 good_going (answer.Entered e) s g n = g
@@ -180,7 +179,7 @@ taken_going : (o : Option ℕ) (d : Register) (s : State) → Going s → Going 
 taken_going None d s g = g
 taken_going (Some line) d s g = g
 
-odd : (n : ℕ) → is_user n ≡ false → (n % 2 == 1) ≡ true
+odd : (n : ℕ) → is_user n ≡ false → eqb (n % 2) 1 ≡ true
 odd n h = eq-eqb _ _ (let e = eqb-false (n % 2) 0 h in omega arith)
 
 controlled_good : (p : Privileged) (w : World) → Going w.state → is_user w.state.system.status ≡ false
@@ -230,9 +229,9 @@ executed_good : (i : Instruction) (w : World) → Going w.state → GoodAfter (r
 executed_good (instruction.Operate o d a b) w g = g
 executed_good (instruction.Complement d a) w g = g
 executed_good (instruction.AddImmediate d a n) w g = g
-executed_good (instruction.JumpIfZero b a) w g = jumped_going (register_at b w.state.registers == 0) (register_at a w.state.registers) w.state g
+executed_good (instruction.JumpIfZero b a) w g = jumped_going (eqb (register_at b w.state.registers) 0) (register_at a w.state.registers) w.state g
 executed_good (instruction.JumpIfNotZero b a) w g =
-    jumped_going (not (register_at b w.state.registers == 0)) (register_at a w.state.registers) w.state g
+    jumped_going (not (eqb (register_at b w.state.registers) 0)) (register_at a w.state.registers) w.state g
 executed_good (instruction.Jump a) w g = g
 executed_good (instruction.JumpAndLink b a) w g = g
 executed_good (instruction.CallSystem a) w g = entering_good event.SystemCall (register_at a w.state.registers) w g
@@ -242,9 +241,9 @@ executed_good (instruction.StoreWord b a n) w g = store_good b Word (words_added
 executed_good (instruction.StoreByte b a n) w g = store_good b Byte (signed_added (register_at a w.state.registers) n) w g
 executed_good (instruction.MoveImmediate d n) w g = g
 executed_good (instruction.MoveHigh d n) w g = g
-executed_good (instruction.BranchIfZero b n) w g = jumped_going (register_at b w.state.registers == 0) (words_added w.state.pc n) w.state g
+executed_good (instruction.BranchIfZero b n) w g = jumped_going (eqb (register_at b w.state.registers) 0) (words_added w.state.pc n) w.state g
 executed_good (instruction.BranchIfNotZero b n) w g =
-    jumped_going (not (register_at b w.state.registers == 0)) (words_added w.state.pc n) w.state g
+    jumped_going (not (eqb (register_at b w.state.registers) 0)) (words_added w.state.pc n) w.state g
 executed_good (instruction.Input d port) w g = g
 executed_good (instruction.Output b port) w g = g
 executed_good (instruction.Privileged p) w g = privileged_good (is_user w.state.system.status) p w g refl

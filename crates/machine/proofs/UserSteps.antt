@@ -1,6 +1,5 @@
 -- A step in user mode enters the system, or runs and stays in user mode. It never halts.
-use Rattle.std.specs.Prelude.{◌≡◌, ℕ, Bool, true, false, cond, not, Some, None, Ok, Err, Option, Result, ◌==◌, ◌≢◌}
-use Rattle.std.proofs.Common.{sym, subst, arith}
+use Rattle.std.proofs.Common.{◌≡◌, ℕ, Bool, true, false, cond, not, eqb, Some, None, Ok, Err, Option, Result, sym, subst}
 use Rattle.arithmetic.specs.Words.{signed_added, words_added}
 use Rattle.instruction.specs.declared.Instruction.{Instruction}
 use Rattle.instruction.specs.declared.Instruction.TheVariants as instruction
@@ -14,15 +13,14 @@ use Rattle.access.specs.Accesses.{fetched, loaded, store_answer}
 use Rattle.answers.specs.declared.StepAnswer.{StepAnswer}
 use Rattle.answers.specs.declared.StepAnswer.TheVariants as answer
 use Rattle.state.specs.declared.State.{State}
-use Rattle.execution.specs.Worlds.{Outcome, World}
+use Rattle.execution.specs.Worlds.{Outcome, World, outcome}
 use Rattle.state.specs.States.{register_at}
 use Rattle.state.specs.Registers.{jumped_if}
 use Rattle.state.specs.Status.{is_user}
 use Rattle.state.specs.Waiting.{is_interrupted}
 use Rattle.execution.specs.Execution.{executed, loaded_by, privileged_by, store_answered_by, stored_from}
-use Rattle.machine.specs.Runs.{entry_ends}
 use Rattle.machine.specs.Steps.{advanced, concluded, fetched_by, performed, step_of}
-use Rattle.machine.specs.Soundness.{resolved}
+use Rattle.machine.proofs.Soundness.{resolved}
 
 abbrev InUserMode : State → Type 0
 InUserMode s = is_user s.system.status ≡ true
@@ -63,9 +61,9 @@ executed_user : (i : Instruction) (w : World) → InUserMode w.state → StaysAf
 executed_user (instruction.Operate o d a b) w u = u
 executed_user (instruction.Complement d a) w u = u
 executed_user (instruction.AddImmediate d a n) w u = u
-executed_user (instruction.JumpIfZero b a) w u = jumped_user (register_at b w.state.registers == 0) (register_at a w.state.registers) w.state u
+executed_user (instruction.JumpIfZero b a) w u = jumped_user (eqb (register_at b w.state.registers) 0) (register_at a w.state.registers) w.state u
 executed_user (instruction.JumpIfNotZero b a) w u =
-    jumped_user (not (register_at b w.state.registers == 0)) (register_at a w.state.registers) w.state u
+    jumped_user (not (eqb (register_at b w.state.registers) 0)) (register_at a w.state.registers) w.state u
 executed_user (instruction.Jump a) w u = u
 executed_user (instruction.JumpAndLink b a) w u = u
 executed_user (instruction.CallSystem a) w u = tt
@@ -75,9 +73,9 @@ executed_user (instruction.StoreWord b a n) w u = store_user b Word (words_added
 executed_user (instruction.StoreByte b a n) w u = store_user b Byte (signed_added (register_at a w.state.registers) n) w u
 executed_user (instruction.MoveImmediate d n) w u = u
 executed_user (instruction.MoveHigh d n) w u = u
-executed_user (instruction.BranchIfZero b n) w u = jumped_user (register_at b w.state.registers == 0) (words_added w.state.pc n) w.state u
+executed_user (instruction.BranchIfZero b n) w u = jumped_user (eqb (register_at b w.state.registers) 0) (words_added w.state.pc n) w.state u
 executed_user (instruction.BranchIfNotZero b n) w u =
-    jumped_user (not (register_at b w.state.registers == 0)) (words_added w.state.pc n) w.state u
+    jumped_user (not (eqb (register_at b w.state.registers) 0)) (words_added w.state.pc n) w.state u
 executed_user (instruction.Input d port) w u = u
 executed_user (instruction.Output b port) w u = u
 executed_user (instruction.Privileged p) w u = privileged_user p w u
@@ -99,8 +97,6 @@ step_user w u =
     cond_user (is_interrupted w.state) _ _ tt
     (fetched_user (fetched (is_user w.state.system.status) w.state.tables.instruction.entries w.marks w.bytes w.state.pc) w.state.pc (advanced w) u)
 
--- a user run goes on only with a machine in user mode
-pub user_goes_on : (r : StepAnswer) (s : State) → StaysUser r s → entry_ends r ≡ None → (r ≢ answer.Halted) × InUserMode s
-user_goes_on answer.Ran s u n = (λ h. let z : ◌≡◌ {A = ℕ} 0 1 = cc in omega arith, u)
-user_goes_on answer.Halted s u n = absurd u
-user_goes_on (answer.Entered e) s u n = absurd (let z : ◌≡◌ {A = ℕ} 0 1 = cc in omega arith)
+-- and so is what is known to be left by a step
+pub stepped_user : (w w' : World) (r : StepAnswer) → outcome w' r ≡ step_of w → InUserMode w.state → StaysUser r w'.state
+stepped_user w w' r e u = subst (λ (o : Outcome StepAnswer). StaysUser o.answer o.after.state) (sym e) (step_user w u)
