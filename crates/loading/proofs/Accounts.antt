@@ -1,6 +1,6 @@
 -- The law of every load: the accepted blocks account for each byte.
 use Rattle.std.proofs.Common.{◌≡◌, ℕ, zero, suc, ◌+◌, ◌-◌, ◌<◌, Bool, true, false, cond, eqb, ltb, ◌⊎◌, List, [], ◌∷◌, length, Ok, Err, Result, sym, refl, ap, ◌∙◌, subst, subst₂, inl, inr, add-zero, arith}
-use Rattle.std.specs.List.{AllByRecursion as All}
+use Rattle.std.specs.List.{AllByRecursion}
 use Rattle.std.proofs.lemmas.Bool.{cases_lt}
 use Rattle.std.proofs.lemmas.Bool.Decides.{nat_tests}
 use Rattle.memory.specs.declared.Mark.{Mark}
@@ -52,7 +52,7 @@ record Taken (marks : ℕ → Mark) (bytes : ℕ → ℕ) (f : List ℕ) (p k : 
   count : blocks_of x.answer ≡ k + more
   size : length (blocks_from more f p) ≡ more
   laid : x.bytes ≡ overlaid_all bytes (blocks_from more f p)
-  fit : All (Fits marks) (blocks_from more f p)
+  fit : AllByRecursion (Fits marks) (blocks_from more f p)
 
 none_more : (marks : ℕ → Mark) (bytes : ℕ → ℕ) (f : List ℕ) (p k : ℕ) (x : Final) → blocks_of x.answer ≡ k → x.bytes ≡ bytes → Taken marks bytes f p k x
 none_more marks bytes f p k x c b = record { more = 0; count = c ∙ sym (add-zero k); size = refl; laid = b; fit = tt }
@@ -65,13 +65,13 @@ one_more marks bytes f p k a body x r fits t =
     let e : blocks_from (suc t.more) f p ≡ first ∷ rest =
     ap (λ (y : Result Item RecordFault). block_before y (blocks_from t.more f (after p y))) r in
     let c : blocks_of x.answer ≡ k + suc t.more = omega (arith, t.count) in
-    let all : All (Fits marks) (first ∷ rest) = (fits, t.fit) in
+    let all : AllByRecursion (Fits marks) (first ∷ rest) = (fits, t.fit) in
     record {
       more = suc t.more;
       count = c;
       size = ap (λ (bs : List Block). length bs) e ∙ ap suc t.size;
       laid = t.laid ∙ ap (λ (bs : List Block). overlaid_all bytes bs) (sym e);
-      fit = subst (λ (bs : List Block). All (Fits marks) bs) (sym e) all;
+      fit = subst (λ (bs : List Block). AllByRecursion (Fits marks) bs) (sym e) all;
     }
 
 taken_from : (n : ℕ) (marks : ℕ → Mark) (bytes : ℕ → ℕ) (f : List ℕ) (p s k : ℕ) → Taken marks bytes f p k (load_from n marks bytes f p s k)
@@ -126,7 +126,7 @@ carried_all (b ∷ blocks) bytes k =
       ]
     ]
 
-plain_all : (marks : ℕ → Mark) (blocks : List Block) (bytes : ℕ → ℕ) (k : ℕ) → All (Fits marks) blocks
+plain_all : (marks : ℕ → Mark) (blocks : List Block) (bytes : ℕ → ℕ) (k : ℕ) → AllByRecursion (Fits marks) blocks
     → (overlaid_all bytes blocks k ≡ bytes k) ⊎ ((k < 65536) × (mark_at marks k ≡ Plain))
 plain_all marks [] bytes k fits = inl refl
 plain_all marks (b ∷ blocks) bytes k fits =
@@ -147,7 +147,7 @@ load_accounted marks bytes f =
     let n : blocks_of x.answer ≡ t.more = omega (arith, t.count) in
     let e : accepted x.answer f ≡ blocks_from t.more f 0 = ap (λ (m : ℕ). blocks_from m f 0) n in
     let laid : x.bytes ≡ overlaid_all bytes (accepted x.answer f) = t.laid ∙ ap (λ (bs : List Block). overlaid_all bytes bs) (sym e) in
-    let fit : All (Fits marks) (accepted x.answer f) = subst (λ (bs : List Block). All (Fits marks) bs) (sym e) t.fit in
+    let fit : AllByRecursion (Fits marks) (accepted x.answer f) = subst (λ (bs : List Block). AllByRecursion (Fits marks) bs) (sym e) t.fit in
     record {
       counted = ap (λ (bs : List Block). length bs) e ∙ (t.size ∙ sym n);
       carried = λ k.

@@ -1,6 +1,6 @@
 -- A file made of blocks is loaded as those blocks.
 use Rattle.std.proofs.Common.{◌≡◌, ℕ, zero, suc, ◌+◌, ◌<◌, ◌≤◌, true, false, cond, eqb, ltb, List, [], ◌∷◌, length, drop, is_ok, Ok, Err, Result, sym, refl, ap, ◌∙◌, subst, add-zero, arith}
-use Rattle.std.specs.List.{AllByRecursion as All}
+use Rattle.std.specs.List.{AllByRecursion}
 use Rattle.std.proofs.lemmas.List.{length-append}
 use Rattle.std.proofs.lemmas.Bool.{le-ltb, eq-eqb, ne_eqb, cond-true, cond-false}
 use Rattle.memory.specs.declared.Mark.{Mark}
@@ -37,8 +37,8 @@ put_takes s marks b sized small fits =
 
 -- what is said of a load that begins with `s` summed and `k` blocks written
 record Loads (marks : ℕ → Mark) (bytes : ℕ → ℕ) (s k : ℕ) (blocks : List Block) (x : Final) : Type 0 where
-  takes : All (Fits marks) blocks → x ≡ final (Ok (record { blocks = k + length blocks; sum = s + total blocks })) (overlaid_all bytes blocks)
-  fitting : is_ok x.answer ≡ true → All (Fits marks) blocks
+  takes : AllByRecursion (Fits marks) blocks → x ≡ final (Ok (record { blocks = k + length blocks; sum = s + total blocks })) (overlaid_all bytes blocks)
+  fitting : is_ok x.answer ≡ true → AllByRecursion (Fits marks) blocks
 
 load_end : (marks : ℕ → Mark) (bytes : ℕ → ℕ) (p s k : ℕ) → Loads marks bytes s k [] (final (finish_by (close_of s (s + 0)) p k) bytes)
 load_end marks bytes p s k =
@@ -83,7 +83,7 @@ module _ (marks : ℕ → Mark) (f : List ℕ) (short : length f ≤ 65535) wher
         fitting = λ ok. let no : false ≡ true = ok in let z : ◌≡◌ {A = ℕ} 0 1 = cc in absurd (omega arith);
       }
 
-  load_blocks : (blocks : List Block) (n p s k : ℕ) (bytes : ℕ → ℕ) → drop p f ≡ records_before blocks (end_bytes (s + total blocks)) → All Sized blocks → s ≤ p
+  load_blocks : (blocks : List Block) (n p s k : ℕ) (bytes : ℕ → ℕ) → drop p f ≡ records_before blocks (end_bytes (s + total blocks)) → AllByRecursion Sized blocks → s ≤ p
       → length blocks < n → Loads marks bytes s k blocks (load_from n marks bytes f p s k)
   load_blocks [] zero p s k bytes e sized sp fuel = absurd (omega arith)
   load_blocks (b ∷ blocks) zero p s k bytes e sized sp fuel = absurd (omega arith)
@@ -111,7 +111,7 @@ enough (b ∷ blocks) ending =
     let l = length-append b.body (records_before blocks ending) in
     omega arith
 
-load_file : (marks : ℕ → Mark) (bytes : ℕ → ℕ) (f : List ℕ) (blocks : List Block) → f ≡ file_of blocks → length f ≤ 65535 → All Sized blocks
+load_file : (marks : ℕ → Mark) (bytes : ℕ → ℕ) (f : List ℕ) (blocks : List Block) → f ≡ file_of blocks → length f ≤ 65535 → AllByRecursion Sized blocks
     → Loads marks bytes 0 0 blocks (load_of marks bytes f)
 load_file marks bytes f blocks e short sized =
     let opened : open_of f ≡ Ok (record { file = f; position = 0 }) = cond-false (ltb 65535 (length f)) (Err TooLong) (Ok (record { file = f; position = 0 })) (le-ltb 65535 (length f) short) in

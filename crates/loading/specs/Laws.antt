@@ -1,6 +1,6 @@
 -- What a load does, said of the blocks of the file and not of the reader's way through it.
 use Rattle.std.specs.Prelude.{◌≡◌, ℕ, zero, suc, ◌+◌, ◌-◌, ◌<◌, ◌≤◌, true, ◌⊎◌, List, [], ◌∷◌, ◌++◌, length, is_ok, Ok, Err, Result, ◌≢◌, slice_index}
-use Rattle.std.specs.List.{AllByRecursion as All}
+use Rattle.std.specs.List.{AllByRecursion}
 use Rattle.memory.specs.declared.Mark.{Mark}
 use Rattle.memory.specs.declared.Mark.TheVariants.{Plain}
 use Rattle.memory.specs.Meaning.{mark_at}
@@ -21,7 +21,7 @@ abbrev pub Covers : Block → ℕ → Type 0
 Covers b k = (b.address ≤ k) × (k < b.address + length b.body)
 
 abbrev pub Uncovered : List Block → ℕ → Type 0
-Uncovered blocks k = All (λ b. Covers b k → ⊥) blocks
+Uncovered blocks k = AllByRecursion (λ b. Covers b k → ⊥) blocks
 
 -- The byte that a block carries for an address.
 abbrev pub carries : Block → ℕ → ℕ
@@ -88,6 +88,6 @@ file_of blocks = records_before blocks (end_bytes (total blocks))
 -- Such a file, if it is not too long, is accepted exactly when each block fits; the load then
 -- answers the number of blocks and the sum, and leaves the blocks laid one over the other.
 pub record Faithful (marks : ℕ → Mark) (before : ℕ → ℕ) (now : ℕ → ℕ) (file : List ℕ) (answer : Result Loaded LoadRefusal) : Type 0 where
-  pub taken : (blocks : List Block) → file ≡ file_of blocks → length file ≤ 65535 → All Sized blocks → All (Fits marks) blocks
+  pub taken : (blocks : List Block) → file ≡ file_of blocks → length file ≤ 65535 → AllByRecursion Sized blocks → AllByRecursion (Fits marks) blocks
       → (answer ≡ Ok (record { blocks = length blocks; sum = total blocks })) × (now ≡ overlaid_all before blocks)
-  pub fitting : (blocks : List Block) → file ≡ file_of blocks → length file ≤ 65535 → All Sized blocks → is_ok answer ≡ true → All (Fits marks) blocks
+  pub fitting : (blocks : List Block) → file ≡ file_of blocks → length file ≤ 65535 → AllByRecursion Sized blocks → is_ok answer ≡ true → AllByRecursion (Fits marks) blocks
