@@ -65,18 +65,11 @@ const MEMORY_SIZE: usize = 65536;
 /// How much of their memory is read-only: 33 frames, with the supervisor's program in them.
 const FIXED_SIZE: u16 = 33 * 1024;
 
-/// How many steps a supervisor makes before the user runs: 32 in a row, and five for each of the
-/// 30 pages that it closes.
-const START_STEPS: u32 = 182;
-
 /// The number of the status register.
 const STATUS: u32 = 7;
 
-/// The status word of user mode with interrupts on.
-const USER_STATUS: u16 = 2;
-
-/// Where the user begins.
-const USER_START: u16 = 0x0010;
+/// A supervisor makes fewer steps than this before the user runs.
+const START_STEPS: u32 = 1000;
 
 const OUR_SECRETS: [u16; 4] = [0x4711, 0x8100, 0xFC00, 0x00A8];
 
@@ -142,19 +135,18 @@ fn user_bytes(heap: Global, bench: &mut Bench) -> Result<Vec<u8>, AllocError> {
     Ok(bytes)
 }
 
-/// A machine whose supervisor has made its steps.
+/// A machine whose supervisor has just handed over to the user.
 fn started<Mem: Memory>(memory: &mut Mem) -> Machine {
     let mut machine = Machine::start();
-    let _ = machine.run(memory, START_STEPS);
-    machine
-}
-
-/// Whether the supervisor has just handed over to the user.
-fn is_at_the_user(machine: &Machine) -> bool {
-    match machine.system_register(STATUS) {
-        Ok(status) => status == USER_STATUS && machine.pc() == USER_START,
-        Err(_) => false,
+    for _ in 0..START_STEPS {
+        match machine.system_register(STATUS) {
+            Ok(status) if status % 2 == 1 => {
+                let _ = machine.step(memory);
+            }
+            _ => break,
+        }
     }
+    machine
 }
 
 fn run_pair<Ours: Memory, Theirs: Memory>(
@@ -165,10 +157,6 @@ fn run_pair<Ours: Memory, Theirs: Memory>(
 ) -> anyhow::Result<()> {
     let mut ours = started(our_memory);
     let mut theirs = started(their_memory);
-    if !is_at_the_user(&ours) || !is_at_the_user(&theirs) {
-        println!(rt; "not started")?;
-        return Ok(());
-    }
     let nothing = Exchange {
         ours: Answer::Done(Ok(())),
         theirs: Answer::Done(Ok(())),
