@@ -1,2 +1,1 @@
-pub mod FirstMatch
 pub mod Rules
