@@ -20,6 +20,12 @@ pub record Rest : Type 0 where
 abbrev pub mark_at : (ℕ → Mark) → ℕ → Mark
 mark_at marks address = marks (address / 1024)
 
+-- A frame that is there can be read.
+abbrev pub readable_by : Mark → Result (Unit {0}) MemoryFault
+readable_by Plain = Ok tt
+readable_by Fixed = Ok tt
+readable_by Absent = Err fault.Absent
+
 -- A read gives the byte, unless its frame is absent.
 abbrev pub read_by : Mark → ℕ → Result ℕ MemoryFault
 read_by Plain byte = Ok byte

@@ -7,10 +7,10 @@ pub mod flat;
 pub mod lending;
 pub mod split;
 
-ghost use Rattle.std.specs.Prelude.{◌≡◌, ℕ};
+ghost use Rattle.std.specs.Prelude.{◌≡◌, ℕ, ◌≢◌, OnOk};
 ghost use Rattle.memory.specs.declared.Mark.{Mark};
-ghost use Rattle.memory.specs.declared.Mark.TheVariants.{Absent};
-ghost use Rattle.memory.specs.Meaning.{Rest, mark_at, read_of, write_answer, written};
+ghost use Rattle.memory.specs.declared.Mark.TheVariants.{Plain, Absent};
+ghost use Rattle.memory.specs.Meaning.{Rest, mark_at, read_of, readable_by, write_answer, write_answer_by, written};
 
 /// How many bytes a frame has.
 pub const FRAME_SIZE: usize = 1024;
@@ -28,6 +28,31 @@ pub enum Mark {
 pub enum MemoryFault {
     Fixed,
     Absent,
+}
+
+impl Mark {
+    /// Whether a frame of this mark can be read, or the fault of reading it.
+    pub fn readable(self) -> Result<(), MemoryFault>
+        ensures answer { result ≡ readable_by self }
+        ensures there { OnOk result (self ≢ Absent) }
+    {
+        match self {
+            Mark::Plain | Mark::Fixed => Ok(()),
+            Mark::Absent => Err(MemoryFault::Absent),
+        }
+    }
+
+    /// Whether a frame of this mark can be written, or the fault of writing it.
+    pub fn writable(self) -> Result<(), MemoryFault>
+        ensures answer { result ≡ write_answer_by self }
+        ensures plain { OnOk result (self ≡ Plain) }
+    {
+        match self {
+            Mark::Plain => Ok(()),
+            Mark::Fixed => Err(MemoryFault::Fixed),
+            Mark::Absent => Err(MemoryFault::Absent),
+        }
+    }
 }
 
 /// A memory, known by the mark of each frame and the byte at each physical address.

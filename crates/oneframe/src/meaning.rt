@@ -20,19 +20,13 @@ impl Memory for OneFrame {
     }
 
     fn read(&self, address: u16) -> Result<u8, MemoryFault> {
-        match self.mark(address) {
-            Mark::Plain => Ok(self.array[address as usize]),
-            _ => Err(MemoryFault::Absent),
-        }
+        self.mark(address).readable()?;
+        Ok(self.array[address as usize])
     }
 
     fn write(&mut self, address: u16, byte: u8) -> Result<(), MemoryFault> {
-        match self.mark(address) {
-            Mark::Plain => {
-                self.array[address as usize] = byte;
-                Ok(())
-            }
-            _ => Err(MemoryFault::Absent),
-        }
+        self.mark(address).writable()?;
+        self.array[address as usize] = byte;
+        Ok(())
     }
 }

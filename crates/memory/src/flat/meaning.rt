@@ -21,19 +21,13 @@ impl Memory for FlatMemory<'_> {
     }
 
     fn read(&self, address: u16) -> Result<u8, MemoryFault> {
-        match self.mark(address) {
-            Mark::Plain => Ok(self.buffer[address as usize]),
-            _ => Err(MemoryFault::Absent),
-        }
+        self.mark(address).readable()?;
+        Ok(self.buffer[address as usize])
     }
 
     fn write(&mut self, address: u16, byte: u8) -> Result<(), MemoryFault> {
-        match self.mark(address) {
-            Mark::Plain => {
-                self.buffer[address as usize] = byte;
-                Ok(())
-            }
-            _ => Err(MemoryFault::Absent),
-        }
+        self.mark(address).writable()?;
+        self.buffer[address as usize] = byte;
+        Ok(())
     }
 }

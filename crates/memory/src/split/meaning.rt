@@ -34,14 +34,9 @@ impl Memory for SplitMemory<'_, '_> {
     }
 
     fn write(&mut self, address: u16, byte: u8) -> Result<(), MemoryFault> {
-        match self.mark(address) {
-            Mark::Plain => {
-                let at = address as usize - self.fixed.len() / FRAME_SIZE * FRAME_SIZE;
-                self.plain[at] = byte;
-                Ok(())
-            }
-            Mark::Fixed => Err(MemoryFault::Fixed),
-            Mark::Absent => Err(MemoryFault::Absent),
-        }
+        self.mark(address).writable()?;
+        let at = address as usize - self.fixed.len() / FRAME_SIZE * FRAME_SIZE;
+        self.plain[at] = byte;
+        Ok(())
     }
 }
