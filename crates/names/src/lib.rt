@@ -1,15 +1,17 @@
 //! Short names, of mnemonics and of commands, in a form that a table can be searched by.
 #![tactic(auto)]
 
-ghost use Rattle.std.specs.Prelude.{◌≡◌, ◌≤◌, length};
+ghost use Rattle.std.specs.Prelude.{◌≡◌, ◌≤◌, length, position, ◌==◌};
 ghost use Rattle.std.specs.Str.{bytes_eq};
-ghost use Rattle.names.specs.Names.{letter_at, name_of, first_word};
+ghost use Rattle.names.specs.Names.{before, first_word, name_of, named};
+
+use search::{Entry, first_match};
 
 /// The most letters that a name can have.
 pub const LONGEST: usize = 8;
 
 /// A name of at most eight letters, filled up with blanks.
-#[derive(Clone, Copy)]
+#[derive(Clone, Copy, PartialEq, Eq, Debug)]
 pub struct Name {
     pub letters: [u8; 8],
 }
@@ -22,25 +24,9 @@ impl Name {
         if word.len() > LONGEST {
             return None;
         }
-        Some(Name {
-            letters: [
-                letter_at(word, 0),
-                letter_at(word, 1),
-                letter_at(word, 2),
-                letter_at(word, 3),
-                letter_at(word, 4),
-                letter_at(word, 5),
-                letter_at(word, 6),
-                letter_at(word, 7),
-            ],
-        })
-    }
-
-    /// Whether two names are the same.
-    pub fn is(self, other: Name) -> bool
-        ensures { result ≡ bytes_eq self.letters other.letters }
-    {
-        self.letters == other.letters
+        let mut letters = [b' '; LONGEST];
+        letters[0..word.len()].copy_from_slice(word);
+        Some(Name { letters })
     }
 
     /// The letters of a name, without the blanks that fill it up.
@@ -52,26 +38,53 @@ impl Name {
     }
 }
 
+/// A row of a table that is searched by name.
+#[derive(Clone, Copy, PartialEq, Eq, Debug)]
+pub struct Named<T> {
+    pub name: Name,
+    pub value: T,
+}
+
+impl<T: Copy> Entry for Named<T> {
+    type Key = Name;
+
+    ghost matched = { λ row name. bytes_eq row.name.letters name.letters };
+
+    fn matches(&self, name: Name) -> bool {
+        self.name == name
+    }
+}
+
+/// What the first row of `word` has.
+pub fn find_named<T: Copy>(rows: &[Named<T>], word: &[u8]) -> Option<T>
+    ensures { result ≡ named rows.now word.now }
+{
+    let row = first_match(rows, Name::of(word)?)?;
+    Some(row.value)
+}
+
 /// What stands before the first blank of a text: all of it, if it has none.
 pub fn first_word(text: &[u8]) -> &[u8]
     ensures word { result.now ≡ first_word text.now }
     ensures bound { length result.now ≤ length text.now }
 {
-    for i in 0..text.len() {
-        if text[i] == b' ' {
-            return &text[0..i];
-        }
-    }
-    text
+    before(text, b' ')
 }
 
-/// The letter of a word at an index, or a blank past its end.
-fn letter_at(word: &[u8], index: usize) -> u8
-    ensures { result ≡ letter_at word.now index }
+/// What stands before the first `mark` of a text: all of it, if it has none.
+pub fn before(text: &[u8], mark: u8) -> &[u8]
+    ensures part { result.now ≡ before mark text.now }
+    ensures bound { length result.now ≤ length text.now }
 {
-    if index < word.len() {
-        word[index]
-    } else {
-        b' '
+    match place_of(text, mark) {
+        Some(end) => &text[0..end],
+        None => text,
     }
+}
+
+/// Where the first `mark` of a text stands.
+fn place_of(text: &[u8], mark: u8) -> Option<usize>
+    ensures { result ≡ position (λ byte. byte == mark) text.now }
+{
+    text.iter().position(|byte| *byte == mark)
 }
