@@ -1,3 +1,4 @@
 pub mod Meaning
 pub mod Flat
 pub mod Split
+pub mod Either

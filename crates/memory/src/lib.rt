@@ -3,6 +3,7 @@
 //! lent buffers come with it.
 #![tactic(auto)]
 
+pub mod either;
 pub mod flat;
 pub mod lending;
 pub mod split;
