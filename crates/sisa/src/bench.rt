@@ -1,8 +1,8 @@
 //! What the monitor works on: a machine and a memory that it owns.
-use answers::{Refusal, RunAnswer, StepAnswer, UserRunAnswer};
 use faults::{LoadFault, Misplaced};
 use loading::load::{LoadRefusal, Loaded, load};
 use machine::machine::Machine;
+use memory::either::EitherMemory;
 use memory::flat::FlatMemory;
 use memory::split::SplitMemory;
 use memory::{Memory, MemoryFault};
@@ -18,11 +18,24 @@ pub enum Store {
     Split { fixed: Vec<u8>, plain: Vec<u8> },
 }
 
+impl Store {
+    /// The memory over the buffers.
+    pub fn memory(&mut self) -> EitherMemory<FlatMemory<'_>, SplitMemory<'_, '_>> {
+        match self {
+            Store::Flat { bytes } => EitherMemory::One(FlatMemory::over(bytes.as_mut_slice())),
+            Store::Split { fixed, plain } => EitherMemory::Other(SplitMemory::over(
+                fixed.as_slice(),
+                plain.as_mut_slice(),
+            )),
+        }
+    }
+}
+
 /// A machine over a memory.
 #[derive(Drop)]
 pub struct Bench {
     pub machine: Machine,
-    store: Store,
+    pub store: Store,
 }
 
 impl Bench {
@@ -71,97 +84,33 @@ impl Bench {
         Ok(())
     }
 
-    /// Makes one step.
-    pub fn step(&mut self) -> Result<StepAnswer, Refusal> {
-        match &mut self.store {
-            Store::Flat { bytes } => self
-                .machine
-                .step(&mut FlatMemory::over(bytes.as_mut_slice())),
-            Store::Split { fixed, plain } => {
-                self.machine.step(&mut SplitMemory::over(fixed.as_slice(), plain.as_mut_slice()))
-            }
-        }
-    }
-
-    /// Makes up to `steps` steps.
-    pub fn run(&mut self, steps: u32) -> Result<RunAnswer, Refusal> {
-        match &mut self.store {
-            Store::Flat { bytes } => self
-                .machine
-                .run(&mut FlatMemory::over(bytes.as_mut_slice()), steps),
-            Store::Split { fixed, plain } => {
-                self.machine.run(
-                    &mut SplitMemory::over(fixed.as_slice(), plain.as_mut_slice()),
-                    steps,
-                )
-            }
-        }
-    }
-
-    /// Makes up to `steps` steps of a user program.
-    pub fn user_run(&mut self, steps: u32) -> Result<UserRunAnswer, Refusal> {
-        match &mut self.store {
-            Store::Flat { bytes } => self
-                .machine
-                .user_run(&mut FlatMemory::over(bytes.as_mut_slice()), steps),
-            Store::Split { fixed, plain } => {
-                self.machine.user_run(
-                    &mut SplitMemory::over(fixed.as_slice(), plain.as_mut_slice()),
-                    steps,
-                )
-            }
-        }
-    }
-
-    /// The byte at a physical address, 0 where there is none.
-    pub fn byte(&mut self, address: u16) -> u8 {
-        let answer = match &mut self.store {
-            Store::Flat { bytes } => FlatMemory::over(bytes.as_mut_slice()).read(address),
-            Store::Split { fixed, plain } => SplitMemory::over(
-                fixed.as_slice(),
-                plain.as_mut_slice(),
-            ).read(address),
-        };
-        answer.unwrap_or(0)
-    }
-
     /// Loads a file, and prints what came of it.
     pub fn load(&mut self, rt: &HostRuntime, file: &[u8]) -> anyhow::Result<()> {
-        match &mut self.store {
-            Store::Flat { bytes } => {
-                let mut memory = FlatMemory::over(bytes.as_mut_slice());
-                print_load(rt, load(&mut memory, file))
-            }
-            Store::Split { fixed, plain } => {
-                let mut memory = SplitMemory::over(fixed.as_slice(), plain.as_mut_slice());
-                print_load(rt, load(&mut memory, file))
-            }
-        }
+        print_load(rt, load(&mut self.store.memory(), file))
     }
 
-    /// Prints bytes from a physical address on.
+    /// Prints bytes from a physical address on, and `--` where there is none.
     pub fn print_bytes(
         &mut self,
         rt: &HostRuntime,
         address: u32,
         count: u32,
     ) -> anyhow::Result<()> {
-        match &mut self.store {
-            Store::Flat { bytes } => show_bytes(
-                rt,
-                &FlatMemory::over(bytes.as_mut_slice()),
-                address,
-                count,
-            ),
-            Store::Split { fixed, plain } => {
-                show_bytes(
-                    rt,
-                    &SplitMemory::over(fixed.as_slice(), plain.as_mut_slice()),
-                    address,
-                    count,
-                )
+        let memory = self.store.memory();
+        let mut before = "";
+        for i in 0..count {
+            let byte = match u16::try_from(address.saturating_add(i)) {
+                Ok(at) => memory.read(at).ok(),
+                Err(_) => None,
+            };
+            match byte {
+                Some(byte) => print!(rt; "{before}{byte:02X}")?,
+                None => print!(rt; "{before}--")?,
             }
+            before = " ";
         }
+        println!(rt; "")?;
+        Ok(())
     }
 }
 
@@ -183,41 +132,15 @@ fn print_load(rt: &HostRuntime, answer: Result<Loaded, LoadRefusal>) -> anyhow::
             let number = fault.number();
             print!(rt; "refused {number} offset {offset} blocks {blocks}")?;
             if let LoadFault::Place(place) = fault {
-                let address = place.address;
-                match place.fault {
-                    Misplaced::Memory(MemoryFault::Fixed) => print!(rt;
-                        " fault fixed address {address}"
-                    )?,
-                    Misplaced::Memory(MemoryFault::Absent) => print!(rt;
-                        " fault absent address {address}"
-                    )?,
-                    Misplaced::Past => print!(rt; " fault past address {address}")?,
-                }
+                let fault = match place.fault {
+                    Misplaced::Memory(MemoryFault::Fixed) => "fixed",
+                    Misplaced::Memory(MemoryFault::Absent) => "absent",
+                    Misplaced::Past => "past",
+                };
+                print!(rt; " fault {fault} address {}", place.address)?;
             }
             println!(rt; "")?;
         }
     }
-    Ok(())
-}
-
-fn show_bytes<Mem: Memory>(
-    rt: &HostRuntime,
-    memory: &Mem,
-    address: u32,
-    count: u32,
-) -> anyhow::Result<()> {
-    for i in 0..count {
-        if i > 0 {
-            print!(rt; " ")?;
-        }
-        match u16::try_from(address.saturating_add(i)) {
-            Ok(at) => match memory.read(at) {
-                Ok(byte) => print!(rt; "{byte:02X}")?,
-                Err(_) => print!(rt; "--")?,
-            },
-            Err(_) => print!(rt; "--")?,
-        }
-    }
-    println!(rt; "")?;
     Ok(())
 }

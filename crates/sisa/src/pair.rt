@@ -1,6 +1,6 @@
 //! Two machines with one user program and different secrets, given the same calls.
 use crate::bench::Bench;
-use crate::readings::{done_text, step_text, user_run_text, word_text};
+use crate::readings::Told;
 use calls::{Answer, Call};
 use comparing::compare;
 use comparing::exchange::{Comparison, Exchange};
@@ -13,6 +13,7 @@ use monitor::lines::split_line;
 use pairing::image::Image;
 use pairing::scripts::call_of;
 use std::alloc::{AllocError, Global};
+use std::fmt;
 
 /// The supervisor of both machines. It takes its secrets from 0x8400 (S4, S5, S6 and a table entry
 /// of its own half), gives the user page 0 in frame 40 and page 1 in frame 41 and no other page,
@@ -128,11 +129,10 @@ fn calls_of(heap: Global, script: &[u8]) -> Result<Option<Vec<Call>>, AllocError
 
 /// The bytes of the monitor's user program.
 fn user_bytes(heap: Global, bench: &mut Bench) -> Result<Vec<u8>, AllocError> {
-    let mut bytes = Vec::new(heap);
-    for address in 0..USER_SIZE {
-        bytes.push(bench.byte(address))?;
-    }
-    Ok(bytes)
+    let memory = bench.store.memory();
+    (0..USER_SIZE)
+        .map(|address| memory.read(address).unwrap_or(0))
+        .collect(heap)
 }
 
 /// A machine whose supervisor has just handed over to the user.
@@ -171,34 +171,43 @@ fn run_pair<Ours: Memory, Theirs: Memory>(
         exchanges.as_mut_slice(),
     );
     for (call, exchange) in calls.iter().zip(exchanges.iter()).take(comparison.calls) {
-        print_exchange(rt, *call, *exchange)?;
+        let (ours, theirs) = (Given(exchange.ours), Given(exchange.theirs));
+        println!(rt; "{}: {ours} | {theirs}", Asked(*call))?;
     }
     print_entry(rt, comparison)?;
     print_registers(rt, &ours, &theirs)?;
     print_memory(rt, our_memory, their_memory)
 }
 
-fn print_exchange(rt: &HostRuntime, call: Call, exchange: Exchange) -> anyhow::Result<()> {
-    match call {
-        Call::Step => print!(rt; "step")?,
-        Call::UserRun { steps } => print!(rt; "user-run {steps}")?,
-        Call::Raise { line } => print!(rt; "raise {line}")?,
-        Call::Drive { port, word } => print!(rt; "drive {port} 0x{word:04X}")?,
-        Call::Register { number } => print!(rt; "reg {number}")?,
-        Call::Output { port } => print!(rt; "out {port}")?,
+/// A call as a script has it.
+#[derive(Clone, Copy)]
+struct Asked(Call);
+
+impl fmt::Display for Asked {
+    fn fmt<W: fmt::Write>(&self, f: &mut fmt::Formatter<W>) -> fmt::Result {
+        match self.0 {
+            Call::Step => f.write_str("step"),
+            Call::UserRun { steps } => write!(f, "user-run {steps}"),
+            Call::Raise { line } => write!(f, "raise {line}"),
+            Call::Drive { port, word } => write!(f, "drive {port} 0x{word:04X}"),
+            Call::Register { number } => write!(f, "reg {number}"),
+            Call::Output { port } => write!(f, "out {port}"),
+        }
     }
-    let ours = answer_text(rt.alloc(), exchange.ours)?;
-    let theirs = answer_text(rt.alloc(), exchange.theirs)?;
-    println!(rt; ": {ours} | {theirs}")?;
-    Ok(())
 }
 
-fn answer_text(heap: Global, answer: Answer) -> Result<String, AllocError> {
-    match answer {
-        Answer::Stepped(answer) => step_text(heap, answer),
-        Answer::Ran(answer) => user_run_text(heap, answer),
-        Answer::Done(answer) => done_text(heap, answer),
-        Answer::Value(answer) => word_text(heap, answer),
+/// The answer of a call.
+#[derive(Clone, Copy)]
+struct Given(Answer);
+
+impl fmt::Display for Given {
+    fn fmt<W: fmt::Write>(&self, f: &mut fmt::Formatter<W>) -> fmt::Result {
+        match self.0 {
+            Answer::Stepped(answer) => write!(f, "{}", Told(answer)),
+            Answer::Ran(answer) => write!(f, "{}", Told(answer)),
+            Answer::Done(answer) => write!(f, "{}", Told(answer)),
+            Answer::Value(answer) => write!(f, "{}", Told(answer)),
+        }
     }
 }
 

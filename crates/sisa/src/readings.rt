@@ -1,7 +1,7 @@
 //! The machine's answers, as text.
 use answers::{Ending, Refusal, RunAnswer, StepAnswer, UserEnding, UserRunAnswer};
 use machine::machine::Machine;
-use std::alloc::{AllocError, Global};
+use std::fmt;
 
 const REGISTERS: u32 = 8;
 
@@ -9,99 +9,91 @@ const LINES: u32 = 8;
 
 const PORTS: u32 = 256;
 
-fn refused(heap: Global, refusal: Refusal) -> Result<String, AllocError> {
-    format!(in heap; "refused {}", refusal.number())
+/// What a call answers if it is not refused, as the monitor tells it.
+pub trait Tell {
+    fn tell<W: fmt::Write>(&self, f: &mut fmt::Formatter<W>) -> fmt::Result;
 }
 
 /// What a step came to.
-pub fn step_text(heap: Global, answer: Result<StepAnswer, Refusal>) -> Result<String, AllocError> {
-    match answer {
-        Ok(StepAnswer::Ran) => String::from_str(heap, "ran"),
-        Ok(StepAnswer::Halted) => String::from_str(heap, "halted"),
-        Ok(StepAnswer::Entered(event)) => format!(in heap; "entered {}", event.code()),
-        Err(refusal) => refused(heap, refusal),
+impl Tell for StepAnswer {
+    fn tell<W: fmt::Write>(&self, f: &mut fmt::Formatter<W>) -> fmt::Result {
+        match self {
+            StepAnswer::Ran => f.write_str("ran"),
+            StepAnswer::Halted => f.write_str("halted"),
+            StepAnswer::Entered(event) => write!(f, "entered {}", event.code()),
+        }
     }
 }
 
 /// How a run ended.
-pub fn run_text(heap: Global, answer: Result<RunAnswer, Refusal>) -> Result<String, AllocError> {
-    match answer {
-        Ok(
-            RunAnswer {
-                steps,
-                ending: Ending::Halted,
-            },
-        ) => format!(in heap; "steps {steps} halted"),
-        Ok(
-            RunAnswer {
-                steps,
-                ending: Ending::Spent,
-            },
-        ) => format!(in heap; "steps {steps} spent"),
-        Err(refusal) => refused(heap, refusal),
+impl Tell for RunAnswer {
+    fn tell<W: fmt::Write>(&self, f: &mut fmt::Formatter<W>) -> fmt::Result {
+        match self.ending {
+            Ending::Halted => write!(f, "steps {} halted", self.steps),
+            Ending::Spent => write!(f, "steps {} spent", self.steps),
+        }
     }
 }
 
 /// How a run of a user program ended.
-pub fn user_run_text(
-    heap: Global,
-    answer: Result<UserRunAnswer, Refusal>,
-) -> Result<String, AllocError> {
-    match answer {
-        Ok(
-            UserRunAnswer {
-                steps,
-                ending: UserEnding::Entered(event),
-            },
-        ) => { format!(in heap; "steps {steps} entered {}", event.code()) }
-        Ok(
-            UserRunAnswer {
-                steps,
-                ending: UserEnding::Spent,
-            },
-        ) => format!(in heap; "steps {steps} spent"),
-        Err(refusal) => refused(heap, refusal),
+impl Tell for UserRunAnswer {
+    fn tell<W: fmt::Write>(&self, f: &mut fmt::Formatter<W>) -> fmt::Result {
+        match self.ending {
+            UserEnding::Entered(event) => write!(
+                f,
+                "steps {} entered {}",
+                self.steps,
+                event.code()
+            ),
+            UserEnding::Spent => write!(f, "steps {} spent", self.steps),
+        }
     }
 }
 
 /// That something was done.
-pub fn done_text(heap: Global, answer: Result<(), Refusal>) -> Result<String, AllocError> {
-    match answer {
-        Ok(()) => String::from_str(heap, "done"),
-        Err(refusal) => refused(heap, refusal),
+impl Tell for () {
+    fn tell<W: fmt::Write>(&self, f: &mut fmt::Formatter<W>) -> fmt::Result {
+        f.write_str("done")
     }
 }
 
 /// A word that was read.
-pub fn word_text(heap: Global, answer: Result<u16, Refusal>) -> Result<String, AllocError> {
-    match answer {
-        Ok(word) => format!(in heap; "{word:04X}"),
-        Err(refusal) => refused(heap, refusal),
+impl Tell for u16 {
+    fn tell<W: fmt::Write>(&self, f: &mut fmt::Formatter<W>) -> fmt::Result {
+        write!(f, "{self:04X}")
+    }
+}
+
+/// The answer of a call: what it tells, or the number of the refusal.
+#[derive(Drop)]
+pub struct Told<T>(pub Result<T, Refusal>);
+
+impl<T: Tell> fmt::Display for Told<T> {
+    fn fmt<W: fmt::Write>(&self, f: &mut fmt::Formatter<W>) -> fmt::Result {
+        match &self.0 {
+            Ok(answer) => answer.tell(f),
+            Err(refusal) => write!(f, "refused {}", refusal.number()),
+        }
     }
 }
 
 /// All registers, the halted mark and the waiting lines on one line, the output words on the next.
 pub fn print_state(rt: &HostRuntime, machine: &Machine) -> anyhow::Result<()> {
     print!(rt; "pc {:04X} r", machine.pc())?;
-    for number in 0..REGISTERS {
-        if let Ok(word) = machine.register(number) {
-            print!(rt; " {word:04X}")?;
-        }
+    for word in (0..REGISTERS).filter_map(|number| machine.register(number).ok()) {
+        print!(rt; " {word:04X}")?;
     }
     print!(rt; " s")?;
-    for number in 0..REGISTERS {
-        if let Ok(word) = machine.system_register(number) {
-            print!(rt; " {word:04X}")?;
-        }
+    for word in (0..REGISTERS).filter_map(|number| machine.system_register(number).ok()) {
+        print!(rt; " {word:04X}")?;
     }
     let halted = u8::from(machine.is_halted());
     println!(rt; " halted {halted} waiting {:02X}", waiting_lines(machine))?;
     print!(rt; "outputs")?;
     for port in 0..PORTS {
-        if let Ok(word) = machine.output(port) {
-            if word != 0 {
-                print!(rt; " {port}={word:04X}")?;
-            }
+        match machine.output(port) {
+            Ok(0) | Err(_) => {}
+            Ok(word) => print!(rt; " {port}={word:04X}")?,
         }
     }
     println!(rt; "")?;
@@ -110,11 +102,7 @@ pub fn print_state(rt: &HostRuntime, machine: &Machine) -> anyhow::Result<()> {
 
 /// Bit i is 1 if line i waits.
 fn waiting_lines(machine: &Machine) -> u8 {
-    let mut lines = 0;
-    for line in 0..LINES {
-        if let Ok(true) = machine.is_waiting(line) {
-            lines |= 1u8 << line;
-        }
-    }
-    lines
+    (0..LINES)
+        .filter(|line| machine.is_waiting(*line) == Ok(true))
+        .fold(0, |lines, line| lines | 1u8 << line)
 }

@@ -2,7 +2,8 @@
 use crate::bench::Bench;
 use crate::listing::list;
 use crate::pair::pair;
-use crate::readings::{done_text, print_state, run_text, step_text, user_run_text, word_text};
+use crate::readings::{Tell, Told, print_state};
+use answers::Refusal;
 use monitor::commands::{Command, parse_command};
 use std::fs;
 use std::io::{BufRead, Write};
@@ -12,18 +13,10 @@ use text::{LINE, read_text, write_text};
 pub fn session<R: BufRead + Drop>(
     rt: &HostRuntime,
     bench: &mut Bench,
-    mut input: R,
+    input: R,
 ) -> anyhow::Result<()> {
-    let mut line = Vec::new(rt.alloc());
-    for _ in 0..u64::MAX {
-        line.clear();
-        if input.read_until(b'\n', &mut line)? == 0 {
-            break;
-        }
-        if line.last() == Some(&b'\n') {
-            let _ = line.pop();
-        }
-        answer(rt, bench, parse_command(line.as_slice()))?;
+    for line in input.split(rt.alloc(), b'\n') {
+        answer(rt, bench, parse_command(line?.as_slice()))?;
     }
     Ok(())
 }
@@ -38,26 +31,30 @@ fn answer(rt: &HostRuntime, bench: &mut Bench, command: Command<'_>) -> anyhow::
             Ok(word) => println!(rt; "{word:04X}")?,
             Err(refusal) => println!(rt; "refused {}", refusal.number())?,
         },
-        Command::List { file } => match read_file(rt, file)? {
-            Some(bytes) => list(rt, bytes.as_slice())?,
-            None => {}
-        },
+        Command::List { file } => {
+            if let Some(bytes) = read_file(rt, file)? {
+                list(rt, bytes.as_slice())?;
+            }
+        }
         Command::FlatMemory { size } => bench.flat(rt, size)?,
         Command::SplitMemory { fixed, plain } => bench.split(rt, fixed, plain)?,
-        Command::SplitMemoryOver { file, plain } => match read_file(rt, file)? {
-            Some(bytes) => bench.split_over(rt, bytes, plain)?,
-            None => {}
-        },
-        Command::Load { file } => match read_file(rt, file)? {
-            Some(bytes) => bench.load(rt, bytes.as_slice())?,
-            None => {}
-        },
+        Command::SplitMemoryOver { file, plain } => {
+            if let Some(bytes) = read_file(rt, file)? {
+                bench.split_over(rt, bytes, plain)?;
+            }
+        }
+        Command::Load { file } => {
+            if let Some(bytes) = read_file(rt, file)? {
+                bench.load(rt, bytes.as_slice())?;
+            }
+        }
         Command::Bytes { address, count } => bench.print_bytes(rt, address, count)?,
         Command::State => print_state(rt, &bench.machine)?,
-        Command::Pair { file } => match read_file(rt, file)? {
-            Some(script) => pair(rt, bench, script.as_slice())?,
-            None => {}
-        },
+        Command::Pair { file } => {
+            if let Some(script) = read_file(rt, file)? {
+                pair(rt, bench, script.as_slice())?;
+            }
+        }
         _ => answer_machine(rt, bench, command)?,
     }
     Ok(())
@@ -65,27 +62,29 @@ fn answer(rt: &HostRuntime, bench: &mut Bench, command: Command<'_>) -> anyhow::
 
 /// Answers one command to the machine.
 fn answer_machine(rt: &HostRuntime, bench: &mut Bench, command: Command<'_>) -> anyhow::Result<()> {
-    let heap = rt.alloc();
-    let text = match command {
+    let machine = &mut bench.machine;
+    let mut memory = bench.store.memory();
+    match command {
         Command::Reset => {
-            bench.machine.reset();
-            done_text(heap, Ok(()))?
+            machine.reset();
+            tell(rt, Ok(()))
         }
-        Command::Step => step_text(heap, bench.step())?,
-        Command::Run { steps } => run_text(heap, bench.run(steps))?,
-        Command::UserRun { steps } => user_run_text(heap, bench.user_run(steps))?,
-        Command::Raise { line } => done_text(heap, bench.machine.raise(line))?,
-        Command::Drive { port, word } => done_text(heap, bench.machine.drive(port, word))?,
-        Command::Register { number } => word_text(heap, bench.machine.register(number))?,
-        Command::SystemRegister { number } => word_text(
-            heap,
-            bench.machine.system_register(number),
-        )?,
-        Command::Pc => word_text(heap, Ok(bench.machine.pc()))?,
-        Command::Output { port } => word_text(heap, bench.machine.output(port))?,
-        _ => String::new(heap),
-    };
-    println!(rt; "{text}")?;
+        Command::Step => tell(rt, machine.step(&mut memory)),
+        Command::Run { steps } => tell(rt, machine.run(&mut memory, steps)),
+        Command::UserRun { steps } => tell(rt, machine.user_run(&mut memory, steps)),
+        Command::Raise { line } => tell(rt, machine.raise(line)),
+        Command::Drive { port, word } => tell(rt, machine.drive(port, word)),
+        Command::Register { number } => tell(rt, machine.register(number)),
+        Command::SystemRegister { number } => tell(rt, machine.system_register(number)),
+        Command::Pc => tell(rt, Ok(machine.pc())),
+        Command::Output { port } => tell(rt, machine.output(port)),
+        _ => Ok(()),
+    }
+}
+
+/// Prints what a call answered.
+fn tell<T: Tell + Drop>(rt: &HostRuntime, answer: Result<T, Refusal>) -> anyhow::Result<()> {
+    println!(rt; "{}", Told(answer))?;
     Ok(())
 }
 
