@@ -1,5 +1,5 @@
 -- The results of the operations as signed numbers.
-use Rattle.std.proofs.Common.{◌≡◌, ℕ, zero, suc, ◌+◌, ◌-◌, ◌*◌, ◌/◌, ◌%◌, ◌^◌, ◌<◌, ◌≤◌, ℤ, pos, negsuc, ◌-ℤ◌, ◌*ℤ◌, neg_ℤ, refl, ap, ◌∙◌, arith, w16, of_z, rules}
+use Rattle.std.proofs.Common.{◌≡◌, ℕ, zero, suc, ◌+◌, ◌-◌, ◌*◌, ◌/◌, ◌%◌, ◌^◌, ◌<◌, ◌≤◌, ℤ, pos, negsuc, ◌-ℤ◌, ◌*ℤ◌, neg_ℤ, refl, ap, sym, subst, ◌∙◌, arith, w16, of_z, rules}
 use lib.Signed.{mag, mag_shr}
 use Rattle.std.proofs.lemmas.Int.{ints, to_z-of_z, wrapping_add-bits, wrapping_sub-bits, wrapping_mul-bits}
 use Rattle.std.proofs.lemmas.Bool.Decides.{nat_tests}
@@ -46,23 +46,26 @@ high_small a b f g = omega (arith, product_small a b f g, mag_floor (a *ℤ b) 6
 right : (v : ℤ) (x y : ℕ) → 16 ≤ y % 32 → shifted v x y ≡ word_of (floor_divided v (2 ^ (32 - y % 32)))
 right v x y h = grind (arith, nat_tests)
 
-pub signed_law : (o : Operation) (x y : ℕ) → x < 65536 → y < 65536 → SignedLaw o x y (value_of o x y)
+law : (o : Operation) (x y : ℕ) → x < 65536 → y < 65536 → SignedLaw o x y (value_of o x y)
 unfolding SignedLaw
-signed_law And x y f g = tt
-signed_law Or x y f g = tt
-signed_law Xor x y f g = tt
-signed_law Add x y f g = wrapping_add-bits w16 x y f g
-signed_law Subtract x y f g = ap signed (difference x y f g) ∙ wrapping_sub-bits w16 x y f g
-signed_law ShiftArithmetic x y f g = λ h.
+law And x y f g = tt
+law Or x y f g = tt
+law Xor x y f g = tt
+law Add x y f g = wrapping_add-bits w16 x y f g
+law Subtract x y f g = ap signed (difference x y f g) ∙ wrapping_sub-bits w16 x y f g
+law ShiftArithmetic x y f g = λ h.
     ap signed (right (signed x) x y h)
     ∙ signed_word (floor_divided (signed x) (2 ^ (32 - y % 32))) (quotient_small (signed x) (32 - y % 32) (magnitude x f))
-signed_law ShiftLogical x y f g = tt
-signed_law Less x y f g = tt
-signed_law LessOrEqual x y f g = tt
-signed_law Equal x y f g = tt
-signed_law LessUnsigned x y f g = tt
-signed_law LessOrEqualUnsigned x y f g = tt
-signed_law Multiply x y f g = wrapping_mul-bits w16 x y f g
-signed_law MultiplyHigh x y f g =
+law ShiftLogical x y f g = tt
+law Less x y f g = tt
+law LessOrEqual x y f g = tt
+law Equal x y f g = tt
+law LessUnsigned x y f g = tt
+law LessOrEqualUnsigned x y f g = tt
+law Multiply x y f g = wrapping_mul-bits w16 x y f g
+law MultiplyHigh x y f g =
     signed_word (floor_divided (signed x *ℤ signed y) 65536) (high_small (signed x) (signed y) (magnitude x f) (magnitude y g))
-signed_law MultiplyHighUnsigned x y f g = tt
+law MultiplyHighUnsigned x y f g = tt
+
+pub signed_law : (o : Operation) (x y r : ℕ) → x < 65536 → y < 65536 → r ≡ value_of o x y → SignedLaw o x y r
+signed_law o x y r f g e = subst (λ (n : ℕ). SignedLaw o x y n) (sym e) (law o x y f g)

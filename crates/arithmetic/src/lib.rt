@@ -2,12 +2,12 @@
 //! an instruction is signed.
 #![tactic(auto)]
 
-ghost use Rattle.std.specs.Prelude.{◌≡◌, ◌<◌};
-ghost use Rattle.arithmetic.specs.Words.{byte_extended, complement_of, flag_of, high_byte_set, signed_added, word_of, words_added};
-ghost use Rattle.arithmetic.specs.Values.{SignedLaw, floor_divided, shifted_left, value_of};
+ghost use Rattle.std.specs.Prelude.{◌≡◌, ◌*ℤ◌};
+ghost use Rattle.arithmetic.specs.Words.{byte_extended, complement_of, high_byte_set, signed_added, word_of, words_added};
+ghost use Rattle.arithmetic.specs.Values.{SignedLaw, floor_divided, shifted, value_of};
 
 /// An operation on the values of two registers.
-#[derive(Clone, Copy)]
+#[derive(Clone, Copy, PartialEq, Eq, Debug)]
 pub enum Operation {
     And,
     Or,
@@ -31,15 +31,10 @@ pub enum Operation {
 }
 
 /// What an operation gives for the values `x` and `y` of its two registers.
+#[tactic(auto, using(crate::proofs::SignedLaws::signed_law))]
 pub fn value(operation: Operation, x: u16, y: u16) -> u16
     ensures value { result ≡ value_of operation x y }
     ensures signed { SignedLaw operation x y result }
-{
-    computed(operation, x, y)
-}
-
-fn computed(operation: Operation, x: u16, y: u16) -> u16
-    ensures { result ≡ value_of operation x y }
 {
     match operation {
         Operation::And => x & y,
@@ -47,16 +42,18 @@ fn computed(operation: Operation, x: u16, y: u16) -> u16
         Operation::Xor => x ^ y,
         Operation::Add => x.wrapping_add(y),
         Operation::Subtract => x.wrapping_sub(y),
-        Operation::ShiftArithmetic => shift_arithmetic(x, y),
-        Operation::ShiftLogical => shift_logical(x, y),
-        Operation::Less => flag(x.cast_signed() < y.cast_signed()),
-        Operation::LessOrEqual => flag(x.cast_signed() <= y.cast_signed()),
-        Operation::Equal => flag(x == y),
-        Operation::LessUnsigned => flag(x < y),
-        Operation::LessOrEqualUnsigned => flag(x <= y),
+        Operation::ShiftArithmetic => shift(i32::from(x.cast_signed()), x, y),
+        Operation::ShiftLogical => shift(i32::from(x), x, y),
+        Operation::Less => u16::from(x.cast_signed() < y.cast_signed()),
+        Operation::LessOrEqual => u16::from(x.cast_signed() <= y.cast_signed()),
+        Operation::Equal => u16::from(x == y),
+        Operation::LessUnsigned => u16::from(x < y),
+        Operation::LessOrEqualUnsigned => u16::from(x <= y),
         Operation::Multiply => x.wrapping_mul(y),
-        Operation::MultiplyHigh => multiply_high(x, y),
-        Operation::MultiplyHighUnsigned => multiply_high_unsigned(x, y),
+        Operation::MultiplyHigh => {
+            high_half(i32::from(x.cast_signed()), i32::from(y.cast_signed()))
+        }
+        Operation::MultiplyHighUnsigned => high_half(i32::from(x), i32::from(y)),
     }
 }
 
@@ -71,89 +68,67 @@ pub fn complement(x: u16) -> u16
 pub fn add_signed(x: u16, n: i8) -> u16
     ensures { result ≡ signed_added x n }
 {
-    x.wrapping_add_signed(n as i16)
+    x.wrapping_add_signed(i16::from(n))
 }
 
 /// `x` and `n` words of two bytes, modulo 65,536.
 pub fn add_words(x: u16, n: i8) -> u16
     ensures { result ≡ words_added x n }
 {
-    x.wrapping_add_signed(2 * n as i16)
+    x.wrapping_add_signed(2 * i16::from(n))
 }
 
 /// `n` modulo 65,536.
 pub fn extend(n: i8) -> u16
     ensures { result ≡ word_of n }
 {
-    (n as i16).cast_unsigned()
+    i16::from(n).cast_unsigned()
 }
 
 /// The signed number in the byte `b`, modulo 65,536.
 pub fn extend_byte(b: u8) -> u16
     ensures { result ≡ byte_extended b }
 {
-    (b.cast_signed() as i16).cast_unsigned()
+    extend(b.cast_signed())
 }
 
 /// `x` with `n` in bits 15..8.
 pub fn with_high_byte(x: u16, n: u8) -> u16
     ensures { result ≡ high_byte_set x n }
 {
-    n as u16 * 256 + x % 256
+    u16::from(n) * 256 + x % 256
 }
 
-fn flag(b: bool) -> u16
-    ensures { result ≡ flag_of b }
-{
-    if b { 1 } else { 0 }
-}
-
-fn shift_left(x: u16, by: u16) -> u16
-    requires { by < 16 }
-    ensures { result ≡ shifted_left x by }
-{
-    x << by
-}
-
-fn shift_arithmetic(x: u16, y: u16) -> u16
-    ensures { result ≡ value_of Operation.ShiftArithmetic x y }
+/// `x` to the left, or `v` to the right, by the low five bits of `y` as a signed number.
+fn shift(v: i32, x: u16, y: u16) -> u16
+    ensures { result ≡ shifted v x y }
 {
     let low = y % 32;
     if low < 16 {
-        shift_left(x, low)
+        x << low
     } else {
-        ((x.cast_signed() as i32 >> (32 - low)) as i16).cast_unsigned()
+        word(i64::from(v >> (32 - low)))
     }
 }
 
-fn shift_logical(x: u16, y: u16) -> u16
-    ensures { result ≡ value_of Operation.ShiftLogical x y }
+/// Bits 31..16 of the product of `a` and `b`.
+fn high_half(a: i32, b: i32) -> u16
+    ensures { result ≡ word_of (floor_divided (a *ℤ b) 65536) }
 {
-    let low = y % 32;
-    if low < 16 {
-        shift_left(x, low)
-    } else {
-        (x as u32 >> (32 - low)) as u16
-    }
+    word(product(a, b) >> 16)
 }
 
-fn multiply_high(x: u16, y: u16) -> u16
-    ensures { result ≡ value_of Operation.MultiplyHigh x y }
+fn product(a: i32, b: i32) -> i64
+    ensures { result ≡ a *ℤ b }
 {
-    high_half(x.cast_signed() as i32 * y.cast_signed() as i32)
+    i64::from(a) * i64::from(b)
 }
 
-fn high_half(product: i32) -> u16
-    ensures { result ≡ word_of (floor_divided product 65536) }
+/// `z` modulo 65,536.
+fn word(z: i64) -> u16
+    ensures { result ≡ word_of z }
 {
-    ((product >> 16) as i16).cast_unsigned()
-}
-
-fn multiply_high_unsigned(x: u16, y: u16) -> u16
-    ensures { result ≡ value_of Operation.MultiplyHighUnsigned x y }
-{
-    let product = x as u32 * y as u32;
-    (product / 65536) as u16
+    (z.cast_unsigned() % 65536) as u16
 }
 
 #[cfg(test)]

@@ -1,10 +1,10 @@
 -- No word belongs to two rows: any two rows differ in a bit that both fix. The test of that is computed over the table.
 use Rattle.std.proofs.Common.{◌≡◌, ℕ, zero, suc, ◌<◌, Bool, true, not, ◌&&◌, T, eqb, List, [], ◌∷◌, length, get_or, sym, refl, ap, ◌∙◌, subst, le_of_suc-le-suc, not-suc-le-zero, eq-eqb, eqb-true}
 use lib.Bits.{bit_and}
+use Rattle.std.proofs.lemmas.Nat.{and_assoc, and_comm}
 use Rattle.search.proofs.Rules.{all, and_left, and_right}
 use Rattle.forms.specs.declared.FormRow.{FormRow}
 use Rattle.forms.specs.Table.{belongs, Disjoint}
-use Rattle.forms.proofs.And.{and_swap}
 
 -- the bits that both rows fix are not the same in both
 abbrev apart : FormRow → FormRow → Bool
@@ -13,6 +13,10 @@ apart r s = not (eqb (bit_and r.value s.mask) (bit_and s.value r.mask))
 abbrev pub all_apart : List FormRow → Bool
 all_apart [] = true
 all_apart (r ∷ rows) = all (apart r) rows && all_apart rows
+
+-- two masks may be taken in either order
+and_swap : (word m n : ℕ) → bit_and (bit_and word m) n ≡ bit_and (bit_and word n) m
+and_swap word m n = and_assoc n word m ∙ ap (bit_and word) (and_comm m n) ∙ sym (and_assoc m word n)
 
 clash : (r s : FormRow) (word : ℕ) → T (apart r s) → belongs word r ≡ true → belongs word s ≡ true → ⊥
 clash r s word t p q =

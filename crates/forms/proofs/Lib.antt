@@ -1,4 +1,3 @@
-mod And
 mod Apart
 pub mod Words
 pub mod Legal

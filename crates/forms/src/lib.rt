@@ -7,7 +7,7 @@ ghost use Rattle.forms.specs.Table.{form_rows, belongs, form_of, form_number, ro
 use search::{Entry, first_match};
 
 /// A form by its mnemonic.
-#[derive(Clone, Copy)]
+#[derive(Clone, Copy, PartialEq, Eq, Debug)]
 pub enum Form {
     And,
     Or,
@@ -56,7 +56,7 @@ pub enum Form {
 }
 
 /// A row of the table: a word belongs to it if its bits under `mask` are those of `value`.
-#[derive(Clone, Copy)]
+#[derive(Clone, Copy, PartialEq, Eq, Debug)]
 pub struct FormRow {
     pub mask: u16,
     pub value: u16,
@@ -73,6 +73,7 @@ impl Entry for FormRow {
     }
 }
 
+// Rows of masks and values in constant memory, in the order of the specification: that is how a form is found here.
 const FORMS: [FormRow; 44] = [
     FormRow {
         mask: 0b1111_000_000_111_000,

@@ -1,10 +1,11 @@
 -- What a word says, said again, is that word: computed row by row.
-use Rattle.std.proofs.Common.{◌≡◌, ℕ, ◌<◌, Bool, T, eqb, Some, None, Option, refl, eqb→eq}
+use Rattle.std.proofs.Common.{◌≡◌, ℕ, ◌<◌, Bool, T, eqb, Some, None, Option, refl, sym, subst, eqb→eq}
 use Rattle.std.specs.Option.{option_map}
 use Rattle.search.proofs.Rules.{all}
 use Rattle.forms.specs.declared.FormRow.{FormRow}
 use Rattle.forms.specs.Table.{form_rows, form_of}
 use Rattle.forms.proofs.ByRows.{row_passes, by_rows}
+use Rattle.instruction.specs.declared.Instruction.{Instruction}
 use Rattle.instruction.specs.Decode.{instruction_of, decode_of}
 use Rattle.instruction.specs.Encode.{word_of, SaidAgain}
 
@@ -15,9 +16,9 @@ all_again : T (all (row_passes again) form_rows)
 unfolding again
 all_again = tt
 
-pub said_again : (word : ℕ) → word < 65536 → SaidAgain word (decode_of word)
+pub said_again : (word : ℕ) (said : Option Instruction) → word < 65536 → said ≡ decode_of word → SaidAgain word said
 unfolding again
-said_again word h = go (form_of word) refl
+said_again word said h value = subst (SaidAgain word) (sym value) (go (form_of word) refl)
   where
     go : (o : Option FormRow) → form_of word ≡ o → SaidAgain word (option_map (λ (row : FormRow). instruction_of row.form word) o)
     go None e = tt

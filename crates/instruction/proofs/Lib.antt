@@ -1,1 +1,1 @@
-mod Again
+pub mod Again

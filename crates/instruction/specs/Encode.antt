@@ -37,10 +37,10 @@ entry_bits table.Data field.Physical = 0xF036
 entry_bits table.Data field.Virtual = 0xF037
 
 -- a register in bits 11 to 9, and in bits 8 to 6
-abbrev high : Register → ℕ
+abbrev pub high : Register → ℕ
 high r = register_number r * 512
 
-abbrev middle : Register → ℕ
+abbrev pub middle : Register → ℕ
 middle r = register_number r * 64
 
 abbrev pub privileged_word : Privileged → ℕ

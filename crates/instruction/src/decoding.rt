@@ -1,6 +1,6 @@
 //! From a word to its instruction.
 ghost use Rattle.std.specs.Prelude.{◌≡◌};
-ghost use Rattle.instruction.specs.Decode.{operate_of, write_entry_of, port_of, instruction_of, decode_of};
+ghost use Rattle.instruction.specs.Decode.{operate_of, write_entry_of, instruction_of, decode_of};
 ghost use Rattle.instruction.specs.Encode.{SaidAgain};
 
 use crate::fields::{register, signed, system_register};
@@ -10,15 +10,13 @@ use forms::{Form, rows};
 use search::first_match;
 
 /// What a word says, or nothing if it has no form.
+#[tactic(auto, using(crate::proofs::Again::said_again))]
 pub fn decode(word: u16) -> Option<Instruction>
     ensures value { result ≡ decode_of word }
     ensures again { SaidAgain word result }
 {
     // The search stands here and not behind a call, so that the compiler sees the table with it.
-    match first_match(rows(), word) {
-        Some(row) => Some(instruction(row.form, word)),
-        None => None,
-    }
+    first_match(rows(), word).map(|row| instruction(row.form, word))
 }
 
 /// What a word of a form says.
@@ -30,7 +28,10 @@ fn instruction(form: Form, word: u16) -> Instruction
     let b = register(word / 512 % 8);
     let five = signed(word % 32, 16);
     let six = signed(word % 64, 32);
-    let eight = signed(word % 256, 128);
+    let byte = (word % 256) as u8;
+    let eight = byte.cast_signed();
+    let port = Port { number: byte };
+    // One match on the form: a part of it apart would need arms for the forms that cannot come there.
     match form {
         Form::And => operate(Operation::And, word),
         Form::Or => operate(Operation::Or, word),
@@ -59,20 +60,11 @@ fn instruction(form: Form, word: u16) -> Instruction
         Form::St => Instruction::StoreWord { b, a, n: six },
         Form::Stb => Instruction::StoreByte { b, a, n: six },
         Form::Movi => Instruction::MoveImmediate { d, n: eight },
-        Form::Movih => Instruction::MoveHigh {
-            d,
-            n: (word % 256) as u8,
-        },
+        Form::Movih => Instruction::MoveHigh { d, n: byte },
         Form::Bz => Instruction::BranchIfZero { b, n: eight },
         Form::Bnz => Instruction::BranchIfNotZero { b, n: eight },
-        Form::In => Instruction::Input {
-            d,
-            port: port(word),
-        },
-        Form::Out => Instruction::Output {
-            b,
-            port: port(word),
-        },
+        Form::In => Instruction::Input { d, port },
+        Form::Out => Instruction::Output { b, port },
         Form::Ei => Instruction::Privileged(Privileged::EnableInterrupts),
         Form::Di => Instruction::Privileged(Privileged::DisableInterrupts),
         Form::Reti => Instruction::Privileged(Privileged::ReturnFromEvent),
@@ -116,13 +108,4 @@ fn write_entry(table: Table, field: EntryField, word: u16) -> Instruction
         b: register(word / 512 % 8),
         a: register(word / 64 % 8),
     })
-}
-
-/// The port of a word.
-fn port(word: u16) -> Port
-    ensures { result ≡ port_of word }
-{
-    Port {
-        number: (word % 256) as u8,
-    }
 }

@@ -1,9 +1,9 @@
 //! From an instruction to its word.
 ghost use Rattle.std.specs.Prelude.{◌≡◌, ◌<◌};
-ghost use Rattle.instruction.specs.Encode.{operation_bits, entry_bits, privileged_word, word_of};
+ghost use Rattle.instruction.specs.Encode.{operation_bits, entry_bits, high, middle, privileged_word, word_of};
 
 use crate::fields::unsigned;
-use crate::{EntryField, Instruction, Privileged, Table};
+use crate::{EntryField, Instruction, Privileged, Register, Table};
 use arithmetic::Operation;
 
 /// The word that says an instruction. A number that its field cannot hold loses its upper bits.
@@ -12,41 +12,26 @@ pub fn encode(instruction: Instruction) -> u16
 {
     match instruction {
         Instruction::Operate { operation, d, a, b } => operation_bits(operation)
-            + d.number() * 512
-            + a.number() * 64
+            + high(d)
+            + middle(a)
             + b.number(),
-        Instruction::Complement { d, a } => 0x0018 + d.number() * 512 + a.number() * 64,
-        Instruction::AddImmediate { d, a, n } => 0x2000
-            + d.number() * 512
-            + a.number() * 64
-            + unsigned(n) % 32,
-        Instruction::JumpIfZero { b, a } => 0x2020 + b.number() * 512 + a.number() * 64,
-        Instruction::JumpIfNotZero { b, a } => 0x2021 + b.number() * 512 + a.number() * 64,
-        Instruction::Jump { a } => 0x2023 + a.number() * 64,
-        Instruction::JumpAndLink { b, a } => 0x2024 + b.number() * 512 + a.number() * 64,
-        Instruction::CallSystem { a } => 0x2027 + a.number() * 64,
-        Instruction::LoadWord { d, a, n } => 0x3000
-            + d.number() * 512
-            + a.number() * 64
-            + unsigned(n) % 64,
-        Instruction::LoadByte { d, a, n } => 0xD000
-            + d.number() * 512
-            + a.number() * 64
-            + unsigned(n) % 64,
-        Instruction::StoreWord { b, a, n } => 0x4000
-            + b.number() * 512
-            + a.number() * 64
-            + unsigned(n) % 64,
-        Instruction::StoreByte { b, a, n } => 0xE000
-            + b.number() * 512
-            + a.number() * 64
-            + unsigned(n) % 64,
-        Instruction::MoveImmediate { d, n } => 0x5000 + d.number() * 512 + unsigned(n),
-        Instruction::MoveHigh { d, n } => 0x5100 + d.number() * 512 + n as u16,
-        Instruction::BranchIfZero { b, n } => 0x6000 + b.number() * 512 + unsigned(n),
-        Instruction::BranchIfNotZero { b, n } => 0x6100 + b.number() * 512 + unsigned(n),
-        Instruction::Input { d, port } => 0x7000 + d.number() * 512 + port.number as u16,
-        Instruction::Output { b, port } => 0x7100 + b.number() * 512 + port.number as u16,
+        Instruction::Complement { d, a } => 0x0018 + high(d) + middle(a),
+        Instruction::AddImmediate { d, a, n } => 0x2000 + high(d) + middle(a) + unsigned(n) % 32,
+        Instruction::JumpIfZero { b, a } => 0x2020 + high(b) + middle(a),
+        Instruction::JumpIfNotZero { b, a } => 0x2021 + high(b) + middle(a),
+        Instruction::Jump { a } => 0x2023 + middle(a),
+        Instruction::JumpAndLink { b, a } => 0x2024 + high(b) + middle(a),
+        Instruction::CallSystem { a } => 0x2027 + middle(a),
+        Instruction::LoadWord { d, a, n } => 0x3000 + high(d) + middle(a) + unsigned(n) % 64,
+        Instruction::LoadByte { d, a, n } => 0xD000 + high(d) + middle(a) + unsigned(n) % 64,
+        Instruction::StoreWord { b, a, n } => 0x4000 + high(b) + middle(a) + unsigned(n) % 64,
+        Instruction::StoreByte { b, a, n } => 0xE000 + high(b) + middle(a) + unsigned(n) % 64,
+        Instruction::MoveImmediate { d, n } => 0x5000 + high(d) + unsigned(n),
+        Instruction::MoveHigh { d, n } => 0x5100 + high(d) + u16::from(n),
+        Instruction::BranchIfZero { b, n } => 0x6000 + high(b) + unsigned(n),
+        Instruction::BranchIfNotZero { b, n } => 0x6100 + high(b) + unsigned(n),
+        Instruction::Input { d, port } => 0x7000 + high(d) + u16::from(port.number),
+        Instruction::Output { b, port } => 0x7100 + high(b) + u16::from(port.number),
         Instruction::Privileged(privileged) => privileged_word(privileged),
     }
 }
@@ -59,15 +44,31 @@ fn privileged_word(privileged: Privileged) -> u16
         Privileged::EnableInterrupts => 0xF020,
         Privileged::DisableInterrupts => 0xF021,
         Privileged::ReturnFromEvent => 0xF024,
-        Privileged::GetInterrupt { d } => 0xF028 + d.number() * 512,
-        Privileged::ReadSystem { d, s } => 0xF02C + d.number() * 512 + s.number() * 64,
-        Privileged::WriteSystem { s, a } => 0xF030 + s.number() * 512 + a.number() * 64,
+        Privileged::GetInterrupt { d } => 0xF028 + high(d),
+        Privileged::ReadSystem { d, s } => 0xF02C + high(d) + s.number() * 64,
+        Privileged::WriteSystem { s, a } => 0xF030 + s.number() * 512 + middle(a),
         Privileged::WriteEntry { table, field, b, a } => entry_bits(table, field)
-            + b.number() * 512
-            + a.number() * 64,
-        Privileged::Flush { a } => 0xF038 + a.number() * 64,
+            + high(b)
+            + middle(a),
+        Privileged::Flush { a } => 0xF038 + middle(a),
         Privileged::Halt => 0xFFFF,
     }
+}
+
+/// A register in bits 11..9.
+fn high(r: Register) -> u16
+    ensures value { result ≡ high r }
+    ensures bound { result < 0x1000 }
+{
+    r.number() * 512
+}
+
+/// A register in bits 8..6.
+fn middle(r: Register) -> u16
+    ensures value { result ≡ middle r }
+    ensures bound { result < 0x200 }
+{
+    r.number() * 64
 }
 
 /// The word of an operation on R0, R0 and R0.

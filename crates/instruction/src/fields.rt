@@ -40,9 +40,11 @@ pub(crate) fn system_register(field: u16) -> SystemRegister
 
 /// The signed number of a field with `2 * half` values.
 pub(crate) fn signed(field: u16, half: u16) -> i8
-    requires { (field < 2 * half) × (half ≤ 128) }
+    requires within { field < 2 * half }
+    requires narrow { half ≤ 128 }
     ensures { result ≡ signed_of half field }
 {
+    // No integer type has five or six bits whose `cast_signed` would say this.
     if field < half {
         field as i8
     } else {
@@ -56,16 +58,7 @@ impl Register {
         ensures value { result ≡ register_number self }
         ensures bound { result < 8 }
     {
-        match self {
-            Register::R0 => 0,
-            Register::R1 => 1,
-            Register::R2 => 2,
-            Register::R3 => 3,
-            Register::R4 => 4,
-            Register::R5 => 5,
-            Register::R6 => 6,
-            Register::R7 => 7,
-        }
+        self as u16
     }
 }
 
@@ -75,16 +68,7 @@ impl SystemRegister {
         ensures value { result ≡ system_number self }
         ensures bound { result < 8 }
     {
-        match self {
-            SystemRegister::SavedStatus => 0,
-            SystemRegister::ReturnAddress => 1,
-            SystemRegister::Event => 2,
-            SystemRegister::Detail => 3,
-            SystemRegister::Scratch => 4,
-            SystemRegister::EntryAddress => 5,
-            SystemRegister::StackPointer => 6,
-            SystemRegister::Status => 7,
-        }
+        self as u16
     }
 }
 
@@ -93,9 +77,5 @@ pub(crate) fn unsigned(n: i8) -> u16
     ensures value { result ≡ unsigned_of n }
     ensures bound { result < 256 }
 {
-    if n >= 0 {
-        n as u16
-    } else {
-        (n as i16 + 256) as u16
-    }
+    u16::from(n.cast_unsigned())
 }

@@ -10,7 +10,7 @@ pub use decoding::decode;
 pub use encoding::encode;
 
 /// A user register, R0 to R7.
-#[derive(Clone, Copy)]
+#[derive(Clone, Copy, PartialEq, Eq, Debug)]
 pub enum Register {
     R0,
     R1,
@@ -23,7 +23,7 @@ pub enum Register {
 }
 
 /// A system register, S0 to S7, by its role.
-#[derive(Clone, Copy)]
+#[derive(Clone, Copy, PartialEq, Eq, Debug)]
 pub enum SystemRegister {
     SavedStatus,
     ReturnAddress,
@@ -36,27 +36,27 @@ pub enum SystemRegister {
 }
 
 /// The number of an input or an output port.
-#[derive(Clone, Copy)]
+#[derive(Clone, Copy, PartialEq, Eq, Debug)]
 pub struct Port {
     pub number: u8,
 }
 
 /// One of the two page tables.
-#[derive(Clone, Copy)]
+#[derive(Clone, Copy, PartialEq, Eq, Debug)]
 pub enum Table {
     Instruction,
     Data,
 }
 
 /// One of the two fields of a page table entry.
-#[derive(Clone, Copy)]
+#[derive(Clone, Copy, PartialEq, Eq, Debug)]
 pub enum EntryField {
     Physical,
     Virtual,
 }
 
 /// An instruction, with its operands: `d` is written, `a` and `b` are read, `n` is a number.
-#[derive(Clone, Copy)]
+#[derive(Clone, Copy, PartialEq, Eq, Debug)]
 pub enum Instruction {
     Operate {
         operation: Operation,
@@ -139,7 +139,7 @@ pub enum Instruction {
 }
 
 /// An instruction of system mode alone.
-#[derive(Clone, Copy)]
+#[derive(Clone, Copy, PartialEq, Eq, Debug)]
 pub enum Privileged {
     EnableInterrupts,
     DisableInterrupts,

@@ -23,7 +23,7 @@ const READ_ONLY: u8 = 64;
 const VALID: u8 = 128;
 
 /// The virtual field of an entry: bits 5..0 are a page, and bit 6 says that the entry is used.
-#[derive(Clone, Copy)]
+#[derive(Clone, Copy, PartialEq, Eq, Debug)]
 pub struct VirtualField {
     bits: u8,
 }
@@ -51,9 +51,10 @@ impl VirtualField {
     }
 }
 
+// A type of its own beside `VirtualField`: a frame is no page, and what the two share is one line.
 /// The physical field of an entry: bits 5..0 are a frame, bit 6 says that it is read-only, and
 /// bit 7 that the entry is valid.
-#[derive(Clone, Copy)]
+#[derive(Clone, Copy, PartialEq, Eq, Debug)]
 pub struct PhysicalField {
     bits: u8,
 }
@@ -88,7 +89,7 @@ impl PhysicalField {
 }
 
 /// An entry of a page table.
-#[derive(Clone, Copy)]
+#[derive(Clone, Copy, PartialEq, Eq, Debug)]
 pub struct PageEntry {
     pub virtual_field: VirtualField,
     pub physical_field: PhysicalField,
@@ -122,13 +123,13 @@ fn start_entry(index: u16) -> PageEntry
 fn flush_entries(entries: &mut [PageEntry])
     ensures { entries.new ≡ flushed entries.old }
 {
-    for i in 0..entries.len() {
-        entries[i] = entries[i].unused();
+    for entry in entries.iter_mut() {
+        *entry = entry.unused();
     }
 }
 
 /// A page, by its number.
-#[derive(Clone, Copy)]
+#[derive(Clone, Copy, PartialEq, Eq, Debug)]
 pub struct Page {
     pub number: u8,
 }
@@ -155,9 +156,9 @@ impl Entry for PageEntry {
 }
 
 /// A page table.
-#[derive(Clone, Copy)]
+#[derive(Clone, Copy, PartialEq, Eq, Debug)]
 pub struct PageTable {
-    entries: [PageEntry; 64],
+    entries: [PageEntry; ENTRIES],
 }
 
 impl PageTable {
@@ -165,11 +166,9 @@ impl PageTable {
     pub fn start() -> PageTable
         ensures { result.entries ≡ start_entries }
     {
-        let mut entries = [start_entry(0); 64];
-        for i in 0..ENTRIES {
-            entries[i] = start_entry(i as u16);
+        PageTable {
+            entries: std::array::from_fn(|index| start_entry(index as u16)),
         }
-        PageTable { entries }
     }
 
     /// The first used entry for a page.

@@ -9,16 +9,7 @@ use Rattle.state.specs.States.{with_pc, with_system}
 -- An entry: S0 takes the status word, S1 takes PC, S2 the event's code and S3 its detail; then the machine is in system
 -- mode with interrupts off, at the address in S5.
 abbrev pub system_entered : Event → ℕ → ℕ → SystemRegisters → SystemRegisters
-system_entered e detail pc s = record {
-  saved_status = s.status;
-  return_address = pc;
-  event = code_of e;
-  detail = detail;
-  scratch = s.scratch;
-  entry_address = s.entry_address;
-  stack_pointer = s.stack_pointer;
-  status = 1;
-}
+system_entered e detail pc s = record s { saved_status = s.status; return_address = pc; event = code_of e; detail = detail; status = 1 }
 
 abbrev pub entered : Event → ℕ → State → State
 entered e detail s = with_pc s.system.entry_address (with_system (system_entered e detail s.pc s.system) s)

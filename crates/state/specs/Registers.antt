@@ -47,4 +47,4 @@ input_taken d port s = register_set d (slice_index s.ports.inputs port.number) s
 -- OUT: the word of an output port takes Rb.
 abbrev pub output_given : Register → Port → State → State
 output_given b port s =
-    with_ports (record { inputs = s.ports.inputs; outputs = slice_set s.ports.outputs port.number (register_at b s.registers) }) s
+    with_ports (record (s.ports) { outputs = slice_set s.ports.outputs port.number (register_at b s.registers) }) s

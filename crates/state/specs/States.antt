@@ -40,25 +40,25 @@ start_state = record {
 
 -- The same state with other R registers, another PC, and so on.
 abbrev pub with_registers : List ℕ → State → State
-with_registers v s = record { registers = v; pc = s.pc; system = s.system; ports = s.ports; waiting = s.waiting; tables = s.tables; halted = s.halted }
+with_registers v s = record s { registers = v }
 
 abbrev pub with_pc : ℕ → State → State
-with_pc v s = record { registers = s.registers; pc = v; system = s.system; ports = s.ports; waiting = s.waiting; tables = s.tables; halted = s.halted }
+with_pc v s = record s { pc = v }
 
 abbrev pub with_system : SystemRegisters → State → State
-with_system v s = record { registers = s.registers; pc = s.pc; system = v; ports = s.ports; waiting = s.waiting; tables = s.tables; halted = s.halted }
+with_system v s = record s { system = v }
 
 abbrev pub with_ports : Ports → State → State
-with_ports v s = record { registers = s.registers; pc = s.pc; system = s.system; ports = v; waiting = s.waiting; tables = s.tables; halted = s.halted }
+with_ports v s = record s { ports = v }
 
 abbrev pub with_waiting : List Bool → State → State
-with_waiting v s = record { registers = s.registers; pc = s.pc; system = s.system; ports = s.ports; waiting = v; tables = s.tables; halted = s.halted }
+with_waiting v s = record s { waiting = v }
 
 abbrev pub with_tables : Tables → State → State
-with_tables v s = record { registers = s.registers; pc = s.pc; system = s.system; ports = s.ports; waiting = s.waiting; tables = v; halted = s.halted }
+with_tables v s = record s { tables = v }
 
 abbrev pub with_halted : Bool → State → State
-with_halted v s = record { registers = s.registers; pc = s.pc; system = s.system; ports = s.ports; waiting = s.waiting; tables = s.tables; halted = v }
+with_halted v s = record s { halted = v }
 
 -- The R registers are a list of eight words.
 abbrev pub register_at : Register → List ℕ → ℕ

@@ -31,14 +31,14 @@ masked_for Status word = word % 4
 
 -- One of the system registers becomes another word.
 abbrev pub replaced : SystemRegister → ℕ → SystemRegisters → SystemRegisters
-replaced SavedStatus v s = record { saved_status = v; return_address = s.return_address; event = s.event; detail = s.detail; scratch = s.scratch; entry_address = s.entry_address; stack_pointer = s.stack_pointer; status = s.status }
-replaced ReturnAddress v s = record { saved_status = s.saved_status; return_address = v; event = s.event; detail = s.detail; scratch = s.scratch; entry_address = s.entry_address; stack_pointer = s.stack_pointer; status = s.status }
-replaced Event v s = record { saved_status = s.saved_status; return_address = s.return_address; event = v; detail = s.detail; scratch = s.scratch; entry_address = s.entry_address; stack_pointer = s.stack_pointer; status = s.status }
-replaced Detail v s = record { saved_status = s.saved_status; return_address = s.return_address; event = s.event; detail = v; scratch = s.scratch; entry_address = s.entry_address; stack_pointer = s.stack_pointer; status = s.status }
-replaced Scratch v s = record { saved_status = s.saved_status; return_address = s.return_address; event = s.event; detail = s.detail; scratch = v; entry_address = s.entry_address; stack_pointer = s.stack_pointer; status = s.status }
-replaced EntryAddress v s = record { saved_status = s.saved_status; return_address = s.return_address; event = s.event; detail = s.detail; scratch = s.scratch; entry_address = v; stack_pointer = s.stack_pointer; status = s.status }
-replaced StackPointer v s = record { saved_status = s.saved_status; return_address = s.return_address; event = s.event; detail = s.detail; scratch = s.scratch; entry_address = s.entry_address; stack_pointer = v; status = s.status }
-replaced Status v s = record { saved_status = s.saved_status; return_address = s.return_address; event = s.event; detail = s.detail; scratch = s.scratch; entry_address = s.entry_address; stack_pointer = s.stack_pointer; status = v }
+replaced SavedStatus v s = record s { saved_status = v }
+replaced ReturnAddress v s = record s { return_address = v }
+replaced Event v s = record s { event = v }
+replaced Detail v s = record s { detail = v }
+replaced Scratch v s = record s { scratch = v }
+replaced EntryAddress v s = record s { entry_address = v }
+replaced StackPointer v s = record s { stack_pointer = v }
+replaced Status v s = record s { status = v }
 
 -- A system register takes a word, and the others stay.
 abbrev pub system_set : SystemRegister → ℕ → SystemRegisters → SystemRegisters

@@ -19,9 +19,9 @@ with_entries entries = record { entries = entries }
 
 abbrev pub entry_set : Table → EntryField → ℕ → ℕ → Tables → Tables
 entry_set table.Instruction field index word t =
-    record { instruction = with_entries (field_set field index word t.instruction.entries); «data» = t.«data» }
+    record t { instruction = with_entries (field_set field index word t.instruction.entries) }
 entry_set table.Data field index word t =
-    record { instruction = t.instruction; «data» = with_entries (field_set field index word t.«data».entries) }
+    record t { «data» = with_entries (field_set field index word t.«data».entries) }
 
 -- A flush leaves no entry used.
 abbrev pub flushed_if : Bool → PageTable → PageTable

@@ -1,17 +1,13 @@
 -- The waiting lines.
-use Rattle.std.specs.Prelude.{ℕ, ◌+◌, Bool, false, cond, ◌&&◌, List, [], ◌∷◌, is_some, Some, None, Option, slice_set}
+use Rattle.std.specs.Prelude.{ℕ, Bool, false, ◌&&◌, List, is_some, position, Some, None, Option, slice_set}
 use Rattle.instruction.specs.declared.Register.{Register}
 use Rattle.state.specs.declared.State.{State}
 use Rattle.state.specs.States.{register_set, with_waiting}
 use Rattle.state.specs.Status.{interrupts_on}
 
--- The lowest line that waits, where the marks are those of the lines from a given one on.
-abbrev pub lowest_from : ℕ → List Bool → Option ℕ
-lowest_from line [] = None
-lowest_from line (waits ∷ others) = cond waits (Some line) (lowest_from (line + 1) others)
-
+-- The lowest line that waits.
 abbrev pub lowest_waiting : List Bool → Option ℕ
-lowest_waiting waiting = lowest_from 0 waiting
+lowest_waiting waiting = position (λ (waits : Bool). waits) waiting
 
 -- An interrupt comes if interrupts are on and a line waits.
 abbrev pub is_interrupted : State → Bool

@@ -12,7 +12,7 @@ mod waiting;
 use paging::PageTable;
 
 /// The system registers S0 to S7, by their roles.
-#[derive(Drop)]
+#[derive(PartialEq, Eq, Debug, Drop)]
 pub struct SystemRegisters {
     pub saved_status: u16,
     pub return_address: u16,
@@ -26,21 +26,21 @@ pub struct SystemRegisters {
 }
 
 /// The words that come in and those that go out.
-#[derive(Drop)]
+#[derive(PartialEq, Eq, Debug, Drop)]
 pub struct Ports {
     pub inputs: [u16; 256],
     pub outputs: [u16; 256],
 }
 
 /// The page tables of fetches and of data accesses.
-#[derive(Drop)]
+#[derive(PartialEq, Eq, Debug, Drop)]
 pub struct Tables {
     pub instruction: PageTable,
     pub data: PageTable,
 }
 
 /// The state of a machine.
-#[derive(Drop)]
+#[derive(PartialEq, Eq, Debug, Drop)]
 pub struct State {
     pub registers: [u16; 8],
     pub pc: u16,

@@ -6,7 +6,7 @@ use crate::State;
 use instruction::Privileged;
 
 /// How an instruction ended that raised no event.
-#[derive(Clone, Copy)]
+#[derive(Clone, Copy, PartialEq, Eq, Debug)]
 pub enum Progress {
     Ran,
     Halted,
@@ -25,7 +25,7 @@ impl State {
             Privileged::EnableInterrupts => {
                 self.system.status = self.system.status % 2 + INTERRUPTS;
             }
-            Privileged::DisableInterrupts => self.system.status = self.system.status % 2,
+            Privileged::DisableInterrupts => self.system.status %= 2,
             Privileged::ReturnFromEvent => {
                 self.system.status = self.system.saved_status;
                 self.pc = self.system.return_address;

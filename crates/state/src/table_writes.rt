@@ -1,22 +1,19 @@
 //! What instructions do to the page tables.
 ghost use Rattle.std.specs.Prelude.{◌≡◌};
-ghost use Rattle.state.specs.TableWrites.{entry_set, tables_flushed};
+ghost use Rattle.state.specs.TableWrites.{entry_set, field_set, tables_flushed};
 
 use crate::Tables;
 use instruction::{EntryField, Table};
+use paging::PageTable;
 
 impl Tables {
     /// A field of entry `index` modulo 64 takes `word`.
     pub fn write_entry(&mut self, table: Table, field: EntryField, index: u16, word: u16)
         ensures { self.new ≡ entry_set table field index word self.old }
     {
-        match (table, field) {
-            (Table::Instruction, EntryField::Physical) => self
-                .instruction
-                .set_physical(index, word),
-            (Table::Instruction, EntryField::Virtual) => self.instruction.set_virtual(index, word),
-            (Table::Data, EntryField::Physical) => self.data.set_physical(index, word),
-            (Table::Data, EntryField::Virtual) => self.data.set_virtual(index, word),
+        match table {
+            Table::Instruction => write_field(&mut self.instruction, field, index, word),
+            Table::Data => write_field(&mut self.data, field, index, word),
         }
     }
 
@@ -30,5 +27,14 @@ impl Tables {
         if word / 2 % 2 == 1 {
             self.data.flush();
         }
+    }
+}
+
+fn write_field(table: &mut PageTable, field: EntryField, index: u16, word: u16)
+    ensures { table.new.entries ≡ field_set field index word table.old.entries }
+{
+    match field {
+        EntryField::Physical => table.set_physical(index, word),
+        EntryField::Virtual => table.set_virtual(index, word),
     }
 }

@@ -5,20 +5,12 @@ ghost use Rattle.state.specs.Waiting.{interrupt_taken, is_interrupted, lowest_wa
 use crate::State;
 use instruction::Register;
 
-/// How many lines there are.
-const LINES: u8 = 8;
-
 /// The lowest line that waits.
-fn lowest_waiting(waiting: &[bool; 8]) -> Option<u8>
+fn lowest_waiting(waiting: &[bool; 8]) -> Option<usize>
     ensures value { result ≡ lowest_waiting waiting.now }
     ensures within { IfSome result (λ line. line < 8) }
 {
-    for line in 0..LINES {
-        if waiting[line as usize] {
-            return Some(line);
-        }
-    }
-    None
+    waiting.iter().position(|waits| *waits)
 }
 
 impl State {
@@ -36,7 +28,7 @@ impl State {
         match lowest_waiting(&self.waiting) {
             None => self.set_register(d, 0),
             Some(line) => {
-                self.waiting[line as usize] = false;
+                self.waiting[line] = false;
                 self.set_register(d, line as u16);
             }
         }
