@@ -16,7 +16,7 @@ abbrev short : FormRow → ℕ → Bool
 short row word = leb (length (form_text word row.form)) 24
 
 abbrev found : FormRow → ℕ → Bool
-found row word = eqb (candidate_by (form_text word row.form) (Some (syntax_of row.form))) word
+found row word = eqb (candidate_by (form_text word row.form) (Some (syntax_of row.form).value)) word
 
 unfoldable right : FormRow → ℕ → Bool
 right row word = short row word && found row word
@@ -47,7 +47,7 @@ abbrev named : ℕ → FormRow → Option Syntax
 named word row = syntax_named (form_text word row.form)
 
 abbrev expected : FormRow → Option Syntax
-expected row = Some (syntax_of row.form)
+expected row = Some (syntax_of row.form).value
 
 names_found : (word : ℕ) → map (named word) form_rows ≡ map expected form_rows
 names_found word = refl
@@ -87,7 +87,7 @@ good word h (Some row) e =
       few = leb→le (length (form_text word row.form)) 24 (and_left (short row word) (found row word) t);
       again =
           ap (candidate_by (form_text word row.form)) (name_found word row e)
-          ∙ eqb→eq (candidate_by (form_text word row.form) (Some (syntax_of row.form))) word (and_right (short row word) (found row word) t);
+          ∙ eqb→eq (candidate_by (form_text word row.form) (Some (syntax_of row.form).value)) word (and_right (short row word) (found row word) t);
     }
 
 pub text_short : (word : ℕ) → word < 65536 → length (text_of word) ≤ 24

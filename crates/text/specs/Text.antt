@@ -49,7 +49,7 @@ operands_text word (piece ∷ pieces) = codes " " ++ pieces_text word (piece ∷
 
 -- the text of a word as one of a form
 abbrev pub form_text : ℕ → Form → List ℕ
-form_text word f = first_word (syntax_of f).name.letters ++ operands_text word (pieces_of (syntax_of f).operands)
+form_text word f = first_word (syntax_of f).name.letters ++ operands_text word (pieces_of (syntax_of f).value.operands)
 
 -- a hexadecimal digit, in capitals
 abbrev pub hex_digit : ℕ → ℕ

@@ -45,7 +45,7 @@ fn form_line(word: u16, form: Form) -> Line
     };
     let syntax = syntax_of(form);
     push_all(&mut line, syntax.name.spelling());
-    let operands = pieces(syntax.operands);
+    let operands = pieces(syntax.value.operands);
     if operands.len() > 0 {
         push(&mut line, b' ');
         push_pieces(&mut line, word, operands);

@@ -1,4 +1,5 @@
 use Rattle.std.proofs.Common.{◌≡◌, ℕ, List, [], ◌∷◌, ◌++◌, take, sym, ap, ◌∙◌, ap₂, append-nil, arith}
+use Rattle.names.specs.declared.Named.{Named}
 use Rattle.names.specs.Names.{first_word}
 use Rattle.text.specs.declared.syntax.Piece.{Piece}
 use Rattle.text.specs.declared.syntax.Syntax.{Syntax}
@@ -10,11 +11,11 @@ use Rattle.text.proofs.Pieces.{operands_some, operands_none}
 use Rattle.text.proofs.writing.form_line.Goals as goal
 
 -- the mnemonic and the operands of the form's syntax, from what the calls found of them
-joined : (word : ℕ) (s t : Syntax) (letters : List ℕ) (ps : List Piece) → s ≡ t → letters ≡ first_word s.name.letters → ps ≡ pieces_of s.operands
-    → take 24 (letters ++ operands_text word ps) ≡ take 24 (first_word t.name.letters ++ operands_text word (pieces_of t.operands))
+joined : (word : ℕ) (s t : Named Syntax) (letters : List ℕ) (ps : List Piece) → s ≡ t → letters ≡ first_word s.name.letters → ps ≡ pieces_of s.value.operands
+    → take 24 (letters ++ operands_text word ps) ≡ take 24 (first_word t.name.letters ++ operands_text word (pieces_of t.value.operands))
 joined word s t letters ps e f g =
     ap₂ (λ (n : List ℕ) (l : List Piece). take 24 (n ++ operands_text word l)) f g
-    ∙ ap (λ (x : Syntax). take 24 (first_word x.name.letters ++ operands_text word (pieces_of x.operands))) e
+    ∙ ap (λ (x : Named Syntax). take 24 (first_word x.name.letters ++ operands_text word (pieces_of x.value.operands))) e
 
 pub returns-then-operands-gt0 : goal.returns-then-operands-gt0
 returns-then-operands-gt0 c =
