@@ -1,5 +1,5 @@
 -- Every text is short, and the word of each word's text is that word: computed row by row, at the words of each row.
-use Rattle.std.proofs.Common.{◌≡◌, ℕ, ◌/◌, ◌%◌, ◌<◌, ◌≤◌, Bool, ◌&&◌, T, eqb, leb, List, [], ◌∷◌, map, length, take, drop, Some, None, Option, sym, refl, ap, ◌∙◌, arith, lit≤, eqb→eq, leb→le}
+use Rattle.std.proofs.Common.{◌≡◌, ℕ, ◌/◌, ◌%◌, ◌<◌, ◌≤◌, Bool, ◌&&◌, T, eqb, leb, List, [], ◌∷◌, map, length, take, drop, Some, None, Option, refl, ap, ◌∙◌, arith, lit≤, eqb→eq, leb→le}
 use Rattle.std.proofs.lemmas.List.{take_all}
 use Rattle.search.proofs.Rules.{all, all_split, and_left, and_right, each_same, first_each}
 use Rattle.forms.specs.declared.FormRow.{FormRow}
@@ -97,5 +97,5 @@ pub candidate_back : (word : ℕ) → word < 65536 → candidate_of (text_of wor
 candidate_back word h = (good word h (form_of word) refl).again
 
 -- a text that was cut at 24 bytes is whole
-pub whole : (word : ℕ) (o : Option FormRow) (text : List ℕ) → word < 65536 → form_of word ≡ o → text ≡ take 24 (text_by word o) → text ≡ text_of word
-whole word o text h e f = f ∙ take_all 24 (text_by word o) (good word h o e).few ∙ ap (text_by word) (sym e)
+pub whole : (word : ℕ) → word < 65536 → take 24 (text_of word) ≡ text_of word
+whole word h = take_all 24 (text_of word) (text_short word h)

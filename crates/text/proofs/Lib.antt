@@ -1,4 +1,3 @@
 mod Fields
 mod Growing
-mod Pieces
 mod Back

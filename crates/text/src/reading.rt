@@ -15,9 +15,7 @@ pub fn read_text(text: &[u8]) -> Result<u16, TextRefusal>
         return Err(TextRefusal::NoWord);
     }
     let word = candidate(text);
-    let line = text_line(word);
-    let written = &line.bytes[0..line.used];
-    if written == text {
+    if text_line(word).text() == text {
         Ok(word)
     } else {
         Err(TextRefusal::NoWord)
