@@ -1,5 +1,5 @@
 //! Writing a word's text.
-ghost use Rattle.std.specs.Prelude.{◌≡◌, ℕ, ◌*◌, ◌<◌, ◌≤◌, [], ◌∷◌, length, take};
+ghost use Rattle.std.specs.Prelude.{◌+◌, ◌%◌, ◌≡◌, ℕ, ◌*◌, ◌<◌, ◌≤◌, [], ◌∷◌, length, take};
 ghost use Rattle.text.specs.Calls.{write_answer, written};
 ghost use Rattle.text.specs.Lines.{grown};
 ghost use Rattle.text.specs.Text.{decimal, signed_decimal, piece_text, pieces_text, operands_text, hex_digit, form_text, raw_text, text_of};
@@ -55,14 +55,7 @@ fn raw_line(word: u16) -> Line
 {
     let mut line = Line::new();
     line.push_all(b".word ");
-    line.push_all(
-        &[
-            hex_digit(word / 4096),
-            hex_digit(word / 256 % 16),
-            hex_digit(word / 16 % 16),
-            hex_digit(word % 16),
-        ],
-    );
+    line.push_all(&[word / 4096, word / 256, word / 16, word].map(hex_digit));
     line
 }
 
@@ -93,11 +86,11 @@ fn push_piece(line: &mut Line, word: u16, piece: Piece)
         Piece::Comma => line.push_all(b", "),
         Piece::Open => line.push(b'('),
         Piece::Close => line.push(b')'),
-        Piece::High => line.push_all(&[b'R', b'0' + (word / 512 % 8) as u8]),
-        Piece::Middle => line.push_all(&[b'R', b'0' + (word / 64 % 8) as u8]),
-        Piece::Low => line.push_all(&[b'R', b'0' + (word % 8) as u8]),
-        Piece::SystemHigh => line.push_all(&[b'S', b'0' + (word / 512 % 8) as u8]),
-        Piece::SystemMiddle => line.push_all(&[b'S', b'0' + (word / 64 % 8) as u8]),
+        Piece::High => line.push_all(&[b'R', digit(word / 512 % 8)]),
+        Piece::Middle => line.push_all(&[b'R', digit(word / 64 % 8)]),
+        Piece::Low => line.push_all(&[b'R', digit(word % 8)]),
+        Piece::SystemHigh => line.push_all(&[b'S', digit(word / 512 % 8)]),
+        Piece::SystemMiddle => line.push_all(&[b'S', digit(word / 64 % 8)]),
         Piece::Signed5 => push_signed(line, 16, word % 32),
         Piece::Signed6 => push_signed(line, 32, word % 64),
         Piece::Signed8 => push_signed(line, 128, word % 256),
@@ -119,29 +112,33 @@ fn push_signed(line: &mut Line, half: u16, n: u16)
     }
 }
 
+/// A number in decimal, without leading zeros.
+#[tactic(auto, using(crate::proofs::Growing::grown_join))]
 fn push_decimal(line: &mut Line, n: u16)
     requires { n < 1000 }
     ensures { line.new ≡ grown line.old (decimal n) }
 {
-    if n < 10 {
-        line.push_all(&[b'0' + n as u8])
-    } else if n < 100 {
-        line.push_all(&[b'0' + (n / 10) as u8, b'0' + (n % 10) as u8])
-    } else {
-        line.push_all(
-            &[
-                b'0' + (n / 100) as u8,
-                b'0' + (n / 10 % 10) as u8,
-                b'0' + (n % 10) as u8,
-            ],
-        )
+    if n >= 100 {
+        line.push(digit(n / 100));
     }
+    if n >= 10 {
+        line.push(digit(n / 10));
+    }
+    line.push(digit(n));
 }
 
-fn hex_digit(n: u16) -> u8
-    requires { n < 16 }
-    ensures { result ≡ hex_digit n }
+/// The last digit of a number.
+fn digit(n: u16) -> u8
+    ensures { result ≡ 48 + n % 10 }
 {
+    b'0' + (n % 10) as u8
+}
+
+/// The last hexadecimal digit of a number, in capitals.
+fn hex_digit(n: u16) -> u8
+    ensures { result ≡ hex_digit (n % 16) }
+{
+    let n = n % 16;
     if n < 10 {
         b'0' + n as u8
     } else {
