@@ -1,3 +1,2 @@
-mod Fields
 mod Growing
 mod Back

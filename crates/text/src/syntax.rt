@@ -6,7 +6,7 @@ use forms::Form;
 use names::{Name, Named, find_named, first_word};
 
 /// A piece of an operand list.
-#[derive(Clone, Copy)]
+#[derive(Clone, Copy, PartialEq, Eq, Debug)]
 pub enum Piece {
     Comma,
     Open,
@@ -32,7 +32,7 @@ pub enum Piece {
 }
 
 /// The operand lists that there are.
-#[derive(Clone, Copy)]
+#[derive(Clone, Copy, PartialEq, Eq, Debug)]
 pub enum Operands {
     Nothing,
     HighRegister,
