@@ -9,8 +9,8 @@ use crate::syntax::{Piece, pieces, syntax_of};
 use crate::{LINE, TextRefusal};
 use forms::{Form, form_of};
 
-#[tactic(auto, using(crate::proofs::Back::text_short))]
 /// Writes the text of a word to the start of a buffer of at least 24 bytes, and answers its length.
+#[tactic(auto, using(crate::proofs::Back::text_short))]
 pub fn write_text(word: u16, buffer: &mut [u8]) -> Result<usize, TextRefusal>
     ensures answer { result ≡ write_answer word buffer.old }
     ensures buffer { buffer.new ≡ written word buffer.old }
@@ -26,10 +26,9 @@ pub fn write_text(word: u16, buffer: &mut [u8]) -> Result<usize, TextRefusal>
 }
 
 /// The text of a word.
-#[tactic(auto, using(crate::proofs::Back::whole, crate::proofs::Back::text_short))]
+#[tactic(auto, using(crate::proofs::Back::whole))]
 pub(crate) fn text_line(word: u16) -> Line
-    ensures text { result ≡ text_of word }
-    ensures bound { length (text_of word) ≤ 24 }
+    ensures { result ≡ text_of word }
 {
     match form_of(word) {
         Some(row) => form_line(word, row.form),
@@ -70,6 +69,7 @@ fn push_operands(line: &mut Line, word: u16, operands: &[Piece])
     }
 }
 
+/// The pieces one after another.
 #[tactic(auto, using(crate::proofs::Growing::grown_piece))]
 fn push_pieces(line: &mut Line, word: u16, pieces: &[Piece])
     ensures { line.new ≡ grown line.old (pieces_text word pieces.now) }
