@@ -1,6 +1,8 @@
 //! Reading a text back.
 ghost use Rattle.std.specs.Prelude.{◌≡◌};
+ghost use Rattle.std.specs.Str.{bytes_eq};
 ghost use Rattle.text.specs.Calls.{ReadsAs, ReadsBack};
+ghost use Rattle.text.specs.Text.{text_of};
 
 use crate::TextRefusal;
 use crate::candidate::candidate;
@@ -12,9 +14,16 @@ pub fn read_text(text: &[u8]) -> Result<u16, TextRefusal>
     ensures back { ReadsBack text.now result }
 {
     let word = candidate(text);
-    if text_line(word).text() == text {
+    if is_text_of(word, text) {
         Ok(word)
     } else {
         Err(TextRefusal::NoWord)
     }
+}
+
+/// Whether a word has this text.
+fn is_text_of(word: u16, text: &[u8]) -> bool
+    ensures { result ≡ bytes_eq (text_of word) text.now }
+{
+    text_line(word).text() == text
 }

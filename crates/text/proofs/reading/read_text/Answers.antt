@@ -1,26 +1,30 @@
 use Rattle.std.proofs.Common.{◌≡◌, ℕ, ◌<◌, List, Ok, sym, refl, ap, ◌∙◌, arith}
-use Rattle.std.proofs.lemmas.Slice.Eq.{slice_eq-Decides}
-use Rattle.std.proofs.lemmas.Bool.Decides.{not_from_Decides, Decides-eqb}
+use Rattle.std.proofs.lemmas.Slice.Eq.{bytes_eq-Decides}
+use Rattle.std.proofs.lemmas.Bool.Decides.{not_from_Decides}
 use Rattle.text.specs.Text.{text_of}
 use Rattle.text.specs.Candidate.{candidate_of}
 use Rattle.text.proofs.Back.{candidate_back}
 use Rattle.text.proofs.reading.read_text.Goals as goal
 
--- a text of a word is that of its candidate
-one : (text : List ℕ) (other : ℕ) → other < 65536 → text_of other ≡ text → other ≡ candidate_of text
-one text other h p = sym (candidate_back other h) ∙ ap candidate_of p
+-- the word of a text is its candidate
+one : (text : List ℕ) (word other : ℕ) → word ≡ candidate_of text → other < 65536 → text_of other ≡ text → other ≡ word
+one text word other e h p = sym (candidate_back other h) ∙ ap candidate_of p ∙ sym e
 
-pub returns-then-eq : goal.returns-then-eq
-returns-then-eq c =
+pub returns-then-is_text_of : goal.returns-then-is_text_of
+returns-then-is_text_of c =
     let text = c.args.text.now in
-    let same : text_of c.candidate-word.result ≡ text = sym (c.text.ensures.text ∙ c.text_line.ensures) ∙ (slice_eq-Decides Decides-eqb _ _ _ c.eq.ensures).0 c.if-eq.true in
-    let only = λ (word : ℕ) (h : word < 65536) (p : text_of word ≡ text). one text word h p ∙ sym c.candidate-word.ensures in
-    record { word = (omega arith, same, only); back = λ word h p. ap Ok (sym (only word h p)) }
+    let word = c.candidate-word.result in
+    let same : text_of word ≡ text = (bytes_eq-Decides (text_of word) text).0 (sym c.is_text_of.ensures ∙ c.if-is_text_of.true) in
+    record {
+      word = (omega arith, same, λ other h p. one text word other c.candidate-word.ensures h p);
+      back = λ other h p. ap Ok (sym (one text word other c.candidate-word.ensures h p));
+    }
 
-pub returns-else-eq : goal.returns-else-eq
-returns-else-eq c =
+pub returns-else-is_text_of : goal.returns-else-is_text_of
+returns-else-is_text_of c =
     let text = c.args.text.now in
-    let none = λ (word : ℕ) (h : word < 65536) (p : text_of word ≡ text).
-    not_from_Decides _ (slice_eq-Decides Decides-eqb _ _ _ c.eq.ensures) c.if-eq.false
-    (c.text.ensures.text ∙ c.text_line.ensures ∙ ap text_of (c.candidate-word.ensures ∙ sym (one text word h p)) ∙ p) in
-    record { word = (refl, none); back = λ word h p. absurd (none word h p) }
+    let word = c.candidate-word.result in
+    let none = λ (other : ℕ) (h : other < 65536) (p : text_of other ≡ text).
+    not_from_Decides _ (bytes_eq-Decides (text_of word) text) (sym c.is_text_of.ensures ∙ c.if-is_text_of.false)
+    (ap text_of (sym (one text word other c.candidate-word.ensures h p)) ∙ p) in
+    record { word = (refl, none); back = λ other h p. absurd (none other h p) }
