@@ -1,11 +1,10 @@
 -- Every text is short, and the word of each word's text is that word: computed row by row, at the words of each row.
-use Rattle.std.proofs.Common.{◌≡◌, ℕ, ◌/◌, ◌%◌, ◌<◌, ◌≤◌, Bool, ◌&&◌, T, eqb, leb, List, [], ◌∷◌, map, length, take, drop, Some, None, Option, sym, refl, ap, ◌∙◌, arith, lit≤, eqb→eq, leb→le}
+use Rattle.std.proofs.Common.{◌≡◌, ℕ, ◌/◌, ◌%◌, ◌<◌, ◌≤◌, Bool, ◌&&◌, T, eqb, leb, List, [], ◌∷◌, map, length, take, Some, None, Option, refl, ap, ◌∙◌, arith, lit≤, eqb→eq, leb→le}
 use Rattle.std.proofs.lemmas.List.{take_all}
-use Rattle.search.proofs.Rules.{all, all_split, and_left, and_right, each_same, first_each}
+use Rattle.search.proofs.Rules.{all, and_left, and_right, each_same, first_each}
 use Rattle.forms.specs.declared.FormRow.{FormRow}
 use Rattle.forms.specs.Table.{form_rows, form_of, belongs}
 use Rattle.forms.proofs.ByRows.{row_passes, by_rows}
-use Rattle.forms.proofs.Words.{every_in, every_at}
 use Rattle.text.specs.declared.syntax.Syntax.{Syntax}
 use Rattle.text.specs.Syntax.{syntax_of, syntax_named}
 use Rattle.text.specs.Text.{text_of, text_by, form_text, raw_text, hex_digit}
@@ -16,38 +15,21 @@ abbrev short : FormRow → ℕ → Bool
 short row word = leb (length (form_text word row.form)) 24
 
 abbrev found : FormRow → ℕ → Bool
-found row word = eqb (candidate_by (form_text word row.form) (Some (syntax_of row.form))) word
+found row word = eqb (candidate_by (form_text word row.form) (Some (syntax_of row.form).value)) word
 
 unfoldable right : FormRow → ℕ → Bool
 right row word = short row word && found row word
 
-right_0 : T (all (row_passes right) (take 11 form_rows))
-unfolding right
-right_0 = tt
-
-right_11 : T (all (row_passes right) (take 11 (drop 11 form_rows)))
-unfolding right
-right_11 = tt
-
-right_22 : T (all (row_passes right) (take 11 (drop 22 form_rows)))
-unfolding right
-right_22 = tt
-
-right_33 : T (all (row_passes right) (drop 33 form_rows))
-unfolding right
-right_33 = tt
-
 all_right : T (all (row_passes right) form_rows)
-all_right =
-    all_split (row_passes right) 11 form_rows right_0
-    (all_split (row_passes right) 11 (drop 11 form_rows) right_11 (all_split (row_passes right) 11 (drop 22 form_rows) right_22 right_33))
+unfolding right
+all_right = tt
 
 -- a text begins with the mnemonic of its form, whatever its operands
 abbrev named : ℕ → FormRow → Option Syntax
 named word row = syntax_named (form_text word row.form)
 
 abbrev expected : FormRow → Option Syntax
-expected row = Some (syntax_of row.form)
+expected row = Some (syntax_of row.form).value
 
 names_found : (word : ℕ) → map (named word) form_rows ≡ map expected form_rows
 names_found word = refl
@@ -57,14 +39,8 @@ name_found word =
     first_each (belongs word) (λ (row : FormRow). named word row ≡ expected row) form_rows (each_same (named word) expected form_rows (names_found word))
 
 -- a hexadecimal digit is read back
-abbrev digit_right : ℕ → Bool
-digit_right n = eqb (hex_at (hex_digit n ∷ []) 0) n
-
-digits_right : T (every_in digit_right 4 0)
-digits_right = tt
-
 digit_back : (n : ℕ) → n < 16 → hex_at (hex_digit n ∷ []) 0 ≡ n
-digit_back n h = eqb→eq (hex_at (hex_digit n ∷ []) 0) n (every_at digit_right 4 0 n digits_right (omega arith))
+digit_back n h = grind arith
 
 raw_back : (word : ℕ) → word < 65536 → candidate_by (raw_text word) None ≡ word
 raw_back word h =
@@ -87,7 +63,7 @@ good word h (Some row) e =
       few = leb→le (length (form_text word row.form)) 24 (and_left (short row word) (found row word) t);
       again =
           ap (candidate_by (form_text word row.form)) (name_found word row e)
-          ∙ eqb→eq (candidate_by (form_text word row.form) (Some (syntax_of row.form))) word (and_right (short row word) (found row word) t);
+          ∙ eqb→eq (candidate_by (form_text word row.form) (Some (syntax_of row.form).value)) word (and_right (short row word) (found row word) t);
     }
 
 pub text_short : (word : ℕ) → word < 65536 → length (text_of word) ≤ 24
@@ -97,5 +73,5 @@ pub candidate_back : (word : ℕ) → word < 65536 → candidate_of (text_of wor
 candidate_back word h = (good word h (form_of word) refl).again
 
 -- a text that was cut at 24 bytes is whole
-pub whole : (word : ℕ) (o : Option FormRow) (text : List ℕ) → word < 65536 → form_of word ≡ o → text ≡ take 24 (text_by word o) → text ≡ text_of word
-whole word o text h e f = f ∙ take_all 24 (text_by word o) (good word h o e).few ∙ ap (text_by word) (sym e)
+pub whole : (word : ℕ) → word < 65536 → take 24 (text_of word) ≡ text_of word
+whole word h = take_all 24 (text_of word) (text_short word h)

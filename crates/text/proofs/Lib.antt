@@ -1,4 +1,2 @@
-mod Fields
 mod Growing
-mod Pieces
 mod Back

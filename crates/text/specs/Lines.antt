@@ -1,9 +1,5 @@
--- What a line holds, and how it grows: what does not fit into its 24 bytes is left out.
-use Rattle.std.specs.Prelude.{◌≡◌, ℕ, List, ◌++◌, take}
-use Rattle.text.specs.declared.line.Line.{Line}
+-- How a text of at most 24 bytes grows: of what comes more, as much is added as fits.
+use Rattle.std.specs.Prelude.{ℕ, ◌-◌, List, ◌++◌, length, take}
 
-abbrev pub line_text : Line → List ℕ
-line_text line = take line.used line.bytes
-
-abbrev pub Grown : Line → List ℕ → Line → Type 0
-Grown before more after = line_text after ≡ take 24 (line_text before ++ more)
+abbrev pub grown : List ℕ → List ℕ → List ℕ
+grown text more = text ++ take (24 - length text) more

@@ -1,10 +1,8 @@
 -- How the forms are written: a mnemonic, and a list of operands.
-use Rattle.std.specs.Prelude.{ℕ, List, [], ◌∷◌, Some, None, codes, Option, slice_index_or}
+use Rattle.std.specs.Prelude.{ℕ, List, [], ◌∷◌, codes, Option, slice_index_or}
 use Prim.Native.String.{String}
-use Rattle.std.specs.Str.{bytes_eq}
-use Rattle.search.specs.First.{first_match}
-use Rattle.names.specs.declared.Name.{Name}
-use Rattle.names.specs.Names.{filled, name_of, first_word}
+use Rattle.names.specs.declared.Named.{Named}
+use Rattle.names.specs.Names.{filled, named, first_word}
 use Rattle.forms.specs.declared.Form.{Form}
 use Rattle.forms.specs.declared.Form.TheVariants as form
 use Rattle.forms.specs.Table.{form_number}
@@ -29,10 +27,10 @@ pieces_of operands.Output = Byte ∷ Comma ∷ High ∷ []
 pieces_of operands.ReadSystem = High ∷ Comma ∷ SystemMiddle ∷ []
 pieces_of operands.WriteSystem = SystemHigh ∷ Comma ∷ Middle ∷ []
 
-abbrev row : String → Operands → Form → Syntax
-row mnemonic o f = record { name = filled (codes mnemonic); operands = o; form = f }
+abbrev row : String → Operands → Form → Named Syntax
+row mnemonic o f = record { name = filled (codes mnemonic); value = record { operands = o; form = f } }
 
-abbrev pub syntax_rows : List Syntax
+abbrev pub syntax_rows : List (Named Syntax)
 syntax_rows =
     row "AND" operands.ThreeRegisters form.And
     ∷ row "OR" operands.ThreeRegisters form.Or
@@ -81,14 +79,9 @@ syntax_rows =
     ∷ []
 
 -- how a form is written
-abbrev pub syntax_of : Form → Syntax
-syntax_of f = slice_index_or syntax_rows (form_number f) (record { name = record { letters = 0 ∷ 0 ∷ 0 ∷ 0 ∷ 0 ∷ 0 ∷ 0 ∷ 0 ∷ [] }; operands = operands.Nothing; form = form.And })
-
--- the syntax with a name
-abbrev pub with_name : Option Name → Option Syntax
-with_name (Some name) = first_match (λ (s : Syntax). bytes_eq s.name.letters name.letters) syntax_rows
-with_name None = None
+abbrev pub syntax_of : Form → Named Syntax
+syntax_of f = slice_index_or syntax_rows (form_number f) (row "" operands.Nothing form.And)
 
 -- the syntax whose mnemonic a text begins with
 abbrev pub syntax_named : List ℕ → Option Syntax
-syntax_named text = with_name (name_of (first_word text))
+syntax_named text = named syntax_rows (first_word text)

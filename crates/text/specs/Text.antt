@@ -1,5 +1,6 @@
 -- The text of a word.
-use Rattle.std.specs.Prelude.{ℕ, ◌+◌, ◌-◌, ◌*◌, ◌/◌, ◌%◌, cond, List, [], ◌∷◌, ◌++◌, Some, None, codes, Option, nat_lt}
+use Rattle.std.specs.Prelude.{ℕ, ◌+◌, ◌-◌, ◌*◌, ◌/◌, ◌%◌, cond, List, [], ◌∷◌, ◌++◌, Some, None, codes, Option, ◌==◌, length, nat_lt}
+use Rattle.std.specs.List.{flat_map}
 use Rattle.names.specs.Names.{first_word}
 use Rattle.forms.specs.declared.Form.{Form}
 use Rattle.forms.specs.declared.FormRow.{FormRow}
@@ -39,17 +40,15 @@ piece_text word Signed8 = signed_decimal 128 (word % 256)
 piece_text word Byte = decimal (word % 256)
 
 abbrev pub pieces_text : ℕ → List Piece → List ℕ
-pieces_text word [] = []
-pieces_text word (piece ∷ pieces) = piece_text word piece ++ pieces_text word pieces
+pieces_text word pieces = flat_map (piece_text word) pieces
 
 -- operands stand behind a blank
 abbrev pub operands_text : ℕ → List Piece → List ℕ
-operands_text word [] = []
-operands_text word (piece ∷ pieces) = codes " " ++ pieces_text word (piece ∷ pieces)
+operands_text word pieces = cond (length pieces == 0) [] (codes " " ++ pieces_text word pieces)
 
 -- the text of a word as one of a form
 abbrev pub form_text : ℕ → Form → List ℕ
-form_text word f = first_word (syntax_of f).name.letters ++ operands_text word (pieces_of (syntax_of f).operands)
+form_text word f = first_word (syntax_of f).name.letters ++ operands_text word (pieces_of (syntax_of f).value.operands)
 
 -- a hexadecimal digit, in capitals
 abbrev pub hex_digit : ℕ → ℕ

@@ -17,7 +17,7 @@ pub use writing::write_text;
 pub const LINE: usize = 24;
 
 /// Why a text is not read or not written.
-#[derive(Clone, Copy)]
+#[derive(Clone, Copy, PartialEq, Eq, Debug)]
 pub enum TextRefusal {
     /// It is the text of no word.
     NoWord,

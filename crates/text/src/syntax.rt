@@ -1,14 +1,12 @@
 //! How the forms are written: a mnemonic, and a list of operands.
 ghost use Rattle.std.specs.Prelude.{◌≡◌, ◌≤◌, length};
-ghost use Rattle.std.specs.Str.{bytes_eq};
 ghost use Rattle.text.specs.Syntax.{pieces_of, syntax_rows, syntax_of, syntax_named};
 
 use forms::Form;
-use names::{Name, first_word};
-use search::{Entry, first_match};
+use names::{Name, Named, find_named, first_word};
 
 /// A piece of an operand list.
-#[derive(Clone, Copy)]
+#[derive(Clone, Copy, PartialEq, Eq, Debug)]
 pub enum Piece {
     Comma,
     Open,
@@ -34,7 +32,7 @@ pub enum Piece {
 }
 
 /// The operand lists that there are.
-#[derive(Clone, Copy)]
+#[derive(Clone, Copy, PartialEq, Eq, Debug)]
 pub enum Operands {
     Nothing,
     HighRegister,
@@ -51,344 +49,84 @@ pub enum Operands {
     WriteSystem,
 }
 
-/// A form's mnemonic and operands.
+/// A form and its operands, which a mnemonic names.
 #[derive(Clone, Copy)]
 pub struct Syntax {
-    pub name: Name,
     pub operands: Operands,
     pub form: Form,
 }
 
-impl Entry for Syntax {
-    type Key = Name;
-
-    ghost matched = { λ syntax name. bytes_eq syntax.name.letters name.letters };
-
-    fn matches(&self, name: Name) -> bool {
-        self.name.is(name)
-    }
+/// A row of the table of mnemonics.
+macro_rules! row {
+    ($mnemonic:literal, $operands:ident, $form:ident) => {
+        Named {
+            name: Name {
+                letters: *$mnemonic,
+            },
+            value: Syntax {
+                operands: Operands::$operands,
+                form: Form::$form,
+            },
+        }
+    };
 }
 
-const SYNTAX: [Syntax; 44] = [
-    Syntax {
-        name: Name {
-            letters: *b"AND     ",
-        },
-        operands: Operands::ThreeRegisters,
-        form: Form::And,
-    },
-    Syntax {
-        name: Name {
-            letters: *b"OR      ",
-        },
-        operands: Operands::ThreeRegisters,
-        form: Form::Or,
-    },
-    Syntax {
-        name: Name {
-            letters: *b"XOR     ",
-        },
-        operands: Operands::ThreeRegisters,
-        form: Form::Xor,
-    },
-    Syntax {
-        name: Name {
-            letters: *b"NOT     ",
-        },
-        operands: Operands::TwoRegisters,
-        form: Form::Not,
-    },
-    Syntax {
-        name: Name {
-            letters: *b"ADD     ",
-        },
-        operands: Operands::ThreeRegisters,
-        form: Form::Add,
-    },
-    Syntax {
-        name: Name {
-            letters: *b"SUB     ",
-        },
-        operands: Operands::ThreeRegisters,
-        form: Form::Sub,
-    },
-    Syntax {
-        name: Name {
-            letters: *b"SHA     ",
-        },
-        operands: Operands::ThreeRegisters,
-        form: Form::Sha,
-    },
-    Syntax {
-        name: Name {
-            letters: *b"SHL     ",
-        },
-        operands: Operands::ThreeRegisters,
-        form: Form::Shl,
-    },
-    Syntax {
-        name: Name {
-            letters: *b"CMPLT   ",
-        },
-        operands: Operands::ThreeRegisters,
-        form: Form::Cmplt,
-    },
-    Syntax {
-        name: Name {
-            letters: *b"CMPLE   ",
-        },
-        operands: Operands::ThreeRegisters,
-        form: Form::Cmple,
-    },
-    Syntax {
-        name: Name {
-            letters: *b"CMPEQ   ",
-        },
-        operands: Operands::ThreeRegisters,
-        form: Form::Cmpeq,
-    },
-    Syntax {
-        name: Name {
-            letters: *b"CMPLTU  ",
-        },
-        operands: Operands::ThreeRegisters,
-        form: Form::Cmpltu,
-    },
-    Syntax {
-        name: Name {
-            letters: *b"CMPLEU  ",
-        },
-        operands: Operands::ThreeRegisters,
-        form: Form::Cmpleu,
-    },
-    Syntax {
-        name: Name {
-            letters: *b"ADDI    ",
-        },
-        operands: Operands::Immediate,
-        form: Form::Addi,
-    },
-    Syntax {
-        name: Name {
-            letters: *b"JZ      ",
-        },
-        operands: Operands::TwoRegisters,
-        form: Form::Jz,
-    },
-    Syntax {
-        name: Name {
-            letters: *b"JNZ     ",
-        },
-        operands: Operands::TwoRegisters,
-        form: Form::Jnz,
-    },
-    Syntax {
-        name: Name {
-            letters: *b"JMP     ",
-        },
-        operands: Operands::MiddleRegister,
-        form: Form::Jmp,
-    },
-    Syntax {
-        name: Name {
-            letters: *b"JAL     ",
-        },
-        operands: Operands::TwoRegisters,
-        form: Form::Jal,
-    },
-    Syntax {
-        name: Name {
-            letters: *b"CALLS   ",
-        },
-        operands: Operands::MiddleRegister,
-        form: Form::Calls,
-    },
-    Syntax {
-        name: Name {
-            letters: *b"LD      ",
-        },
-        operands: Operands::Load,
-        form: Form::Ld,
-    },
-    Syntax {
-        name: Name {
-            letters: *b"LDB     ",
-        },
-        operands: Operands::Load,
-        form: Form::Ldb,
-    },
-    Syntax {
-        name: Name {
-            letters: *b"ST      ",
-        },
-        operands: Operands::Store,
-        form: Form::St,
-    },
-    Syntax {
-        name: Name {
-            letters: *b"STB     ",
-        },
-        operands: Operands::Store,
-        form: Form::Stb,
-    },
-    Syntax {
-        name: Name {
-            letters: *b"MOVI    ",
-        },
-        operands: Operands::Number,
-        form: Form::Movi,
-    },
-    Syntax {
-        name: Name {
-            letters: *b"MOVIH   ",
-        },
-        operands: Operands::Byte,
-        form: Form::Movih,
-    },
-    Syntax {
-        name: Name {
-            letters: *b"BZ      ",
-        },
-        operands: Operands::Number,
-        form: Form::Bz,
-    },
-    Syntax {
-        name: Name {
-            letters: *b"BNZ     ",
-        },
-        operands: Operands::Number,
-        form: Form::Bnz,
-    },
-    Syntax {
-        name: Name {
-            letters: *b"IN      ",
-        },
-        operands: Operands::Byte,
-        form: Form::In,
-    },
-    Syntax {
-        name: Name {
-            letters: *b"OUT     ",
-        },
-        operands: Operands::Output,
-        form: Form::Out,
-    },
-    Syntax {
-        name: Name {
-            letters: *b"MUL     ",
-        },
-        operands: Operands::ThreeRegisters,
-        form: Form::Mul,
-    },
-    Syntax {
-        name: Name {
-            letters: *b"MULH    ",
-        },
-        operands: Operands::ThreeRegisters,
-        form: Form::Mulh,
-    },
-    Syntax {
-        name: Name {
-            letters: *b"MULHU   ",
-        },
-        operands: Operands::ThreeRegisters,
-        form: Form::Mulhu,
-    },
-    Syntax {
-        name: Name {
-            letters: *b"EI      ",
-        },
-        operands: Operands::Nothing,
-        form: Form::Ei,
-    },
-    Syntax {
-        name: Name {
-            letters: *b"DI      ",
-        },
-        operands: Operands::Nothing,
-        form: Form::Di,
-    },
-    Syntax {
-        name: Name {
-            letters: *b"RETI    ",
-        },
-        operands: Operands::Nothing,
-        form: Form::Reti,
-    },
-    Syntax {
-        name: Name {
-            letters: *b"GETIID  ",
-        },
-        operands: Operands::HighRegister,
-        form: Form::Getiid,
-    },
-    Syntax {
-        name: Name {
-            letters: *b"RDS     ",
-        },
-        operands: Operands::ReadSystem,
-        form: Form::Rds,
-    },
-    Syntax {
-        name: Name {
-            letters: *b"WRS     ",
-        },
-        operands: Operands::WriteSystem,
-        form: Form::Wrs,
-    },
-    Syntax {
-        name: Name {
-            letters: *b"WRPI    ",
-        },
-        operands: Operands::TwoRegisters,
-        form: Form::Wrpi,
-    },
-    Syntax {
-        name: Name {
-            letters: *b"WRVI    ",
-        },
-        operands: Operands::TwoRegisters,
-        form: Form::Wrvi,
-    },
-    Syntax {
-        name: Name {
-            letters: *b"WRPD    ",
-        },
-        operands: Operands::TwoRegisters,
-        form: Form::Wrpd,
-    },
-    Syntax {
-        name: Name {
-            letters: *b"WRVD    ",
-        },
-        operands: Operands::TwoRegisters,
-        form: Form::Wrvd,
-    },
-    Syntax {
-        name: Name {
-            letters: *b"FLUSH   ",
-        },
-        operands: Operands::MiddleRegister,
-        form: Form::Flush,
-    },
-    Syntax {
-        name: Name {
-            letters: *b"HALT    ",
-        },
-        operands: Operands::Nothing,
-        form: Form::Halt,
-    },
+const SYNTAX: [Named<Syntax>; 44] = [
+    row!(b"AND     ", ThreeRegisters, And),
+    row!(b"OR      ", ThreeRegisters, Or),
+    row!(b"XOR     ", ThreeRegisters, Xor),
+    row!(b"NOT     ", TwoRegisters, Not),
+    row!(b"ADD     ", ThreeRegisters, Add),
+    row!(b"SUB     ", ThreeRegisters, Sub),
+    row!(b"SHA     ", ThreeRegisters, Sha),
+    row!(b"SHL     ", ThreeRegisters, Shl),
+    row!(b"CMPLT   ", ThreeRegisters, Cmplt),
+    row!(b"CMPLE   ", ThreeRegisters, Cmple),
+    row!(b"CMPEQ   ", ThreeRegisters, Cmpeq),
+    row!(b"CMPLTU  ", ThreeRegisters, Cmpltu),
+    row!(b"CMPLEU  ", ThreeRegisters, Cmpleu),
+    row!(b"ADDI    ", Immediate, Addi),
+    row!(b"JZ      ", TwoRegisters, Jz),
+    row!(b"JNZ     ", TwoRegisters, Jnz),
+    row!(b"JMP     ", MiddleRegister, Jmp),
+    row!(b"JAL     ", TwoRegisters, Jal),
+    row!(b"CALLS   ", MiddleRegister, Calls),
+    row!(b"LD      ", Load, Ld),
+    row!(b"LDB     ", Load, Ldb),
+    row!(b"ST      ", Store, St),
+    row!(b"STB     ", Store, Stb),
+    row!(b"MOVI    ", Number, Movi),
+    row!(b"MOVIH   ", Byte, Movih),
+    row!(b"BZ      ", Number, Bz),
+    row!(b"BNZ     ", Number, Bnz),
+    row!(b"IN      ", Byte, In),
+    row!(b"OUT     ", Output, Out),
+    row!(b"MUL     ", ThreeRegisters, Mul),
+    row!(b"MULH    ", ThreeRegisters, Mulh),
+    row!(b"MULHU   ", ThreeRegisters, Mulhu),
+    row!(b"EI      ", Nothing, Ei),
+    row!(b"DI      ", Nothing, Di),
+    row!(b"RETI    ", Nothing, Reti),
+    row!(b"GETIID  ", HighRegister, Getiid),
+    row!(b"RDS     ", ReadSystem, Rds),
+    row!(b"WRS     ", WriteSystem, Wrs),
+    row!(b"WRPI    ", TwoRegisters, Wrpi),
+    row!(b"WRVI    ", TwoRegisters, Wrvi),
+    row!(b"WRPD    ", TwoRegisters, Wrpd),
+    row!(b"WRVD    ", TwoRegisters, Wrvd),
+    row!(b"FLUSH   ", MiddleRegister, Flush),
+    row!(b"HALT    ", Nothing, Halt),
 ];
 
 /// How the forms are written, in the order of their table.
-fn syntaxes() -> &'static [Syntax]
+fn syntaxes() -> &'static [Named<Syntax>]
     ensures { result.now ≡ syntax_rows }
 {
     &SYNTAX
 }
 
 /// How a form is written.
-pub(crate) fn syntax_of(form: Form) -> Syntax
+pub(crate) fn syntax_of(form: Form) -> Named<Syntax>
     ensures { result ≡ syntax_of form }
 {
     let rows = syntaxes();
@@ -399,10 +137,7 @@ pub(crate) fn syntax_of(form: Form) -> Syntax
 pub(crate) fn syntax_named(text: &[u8]) -> Option<Syntax>
     ensures { result ≡ syntax_named text.now }
 {
-    match Name::of(first_word(text)) {
-        Some(name) => first_match(syntaxes(), name),
-        None => None,
-    }
+    find_named(syntaxes(), first_word(text))
 }
 
 /// The pieces of an operand list.

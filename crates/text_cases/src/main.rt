@@ -160,65 +160,42 @@ const REFUSED: [&[u8]; 14] = [
     b".word 02A3",
 ];
 
+/// The text of a word, written into a buffer.
+fn written(word: u16, buffer: &mut [u8; LINE]) -> Option<&[u8]> {
+    let length = write_text(word, buffer).ok()?;
+    buffer.get(..length)
+}
+
 /// Whether a word has this text, written and read.
 fn is_text_of(word: u16, text: &[u8]) -> bool {
-    let mut buffer = [b'?'; LINE];
-    let Ok(length) = write_text(word, &mut buffer) else {
-        return false;
-    };
-    match (buffer.get(0..length), read_text(text)) {
-        (Some(written), Ok(read)) => written == text && read == word,
-        _ => false,
-    }
+    written(word, &mut [b'?'; LINE]) == Some(text) && read_text(text) == Ok(word)
 }
 
 /// Whether the text of a word is read as that word.
 fn reads_back(word: u16) -> bool {
-    let mut buffer = [b'?'; LINE];
-    let Ok(length) = write_text(word, &mut buffer) else {
-        return false;
-    };
-    match buffer.get(0..length) {
-        Some(written) => match read_text(written) {
-            Ok(read) => read == word,
-            Err(_) => false,
-        },
-        None => false,
-    }
+    written(word, &mut [b'?'; LINE]).is_some_and(|text| read_text(text) == Ok(word))
 }
 
 fn main(rt: HostRuntime) -> anyhow::Result<()> {
-    let mut right: u32 = 0;
-    for sample in &SAMPLES {
-        if is_text_of(sample.word, sample.text) {
-            right = right.wrapping_add(1);
-        }
-    }
+    let right = SAMPLES
+        .iter()
+        .filter(|sample| is_text_of(sample.word, sample.text))
+        .count();
     println!(rt; "samples written and read: {right}")?;
-    let mut refused: u32 = 0;
-    for text in &REFUSED {
-        if let Err(refusal) = read_text(text) {
-            if refusal.number() == 20 {
-                refused = refused.wrapping_add(1);
-            }
-        }
-    }
+    let refused = REFUSED
+        .iter()
+        .filter(|text| read_text(text).is_err_and(|refusal| refusal.number() == 20))
+        .count();
     println!(rt; "other texts refused: {refused}")?;
     let mut short = [b'?'; 23];
     match write_text(0, &mut short) {
         Ok(length) => println!(rt; "short buffer took {length}")?,
         Err(refusal) => println!(rt; "short buffer refused {}", refusal.number())?,
     }
-    let mut back: u32 = 0;
-    let mut legal: u32 = 0;
-    for word in 0..=u16::MAX {
-        if reads_back(word) {
-            back = back.wrapping_add(1);
-        }
-        if form_of(word).is_some() {
-            legal = legal.wrapping_add(1);
-        }
-    }
+    let back = (0..=u16::MAX).filter(|word| reads_back(*word)).count();
+    let legal = (0..=u16::MAX)
+        .filter(|word| form_of(*word).is_some())
+        .count();
     println!(rt; "words read back: {back}, with a form: {legal}")?;
     Ok(())
 }
