@@ -1,15 +1,13 @@
 -- The command that a line is.
-use Rattle.std.specs.Prelude.{ℕ, Bool, true, cond, ◌&&◌, ◌||◌, List, [], ◌∷◌, Some, None, codes, Option, ◌==◌, slice_index}
+use Rattle.std.specs.Prelude.{ℕ, Bool, true, cond, if◌then◌else◌, ◌&&◌, ◌||◌, List, [], ◌∷◌, Some, None, codes, Option, ◌==◌, slice_index}
 use Prim.Native.String.{String}
-use Rattle.std.specs.Option.{option_map}
+use Rattle.std.specs.Option.{option_and_then, option_map, unwrap_or}
 use Rattle.std.specs.Str.{bytes_eq}
-use Rattle.search.specs.First.{first_match}
-use Rattle.names.specs.declared.Name.{Name}
-use Rattle.names.specs.Names.{filled, name_of}
+use Rattle.names.specs.declared.Named.{Named}
+use Rattle.names.specs.Names.{filled, named}
 use Rattle.monitor.specs.declared.arguments.Pair.{Pair}
 use Rattle.monitor.specs.declared.commands.Verb.{Verb}
 use Rattle.monitor.specs.declared.commands.Verb.TheVariants as verb
-use Rattle.monitor.specs.declared.commands.CommandRow.{CommandRow}
 use Rattle.monitor.specs.declared.commands.Command.{Command}
 use Rattle.monitor.specs.declared.commands.Command.TheVariants as command
 use Rattle.monitor.specs.Words.{Parts, split_of}
@@ -65,15 +63,11 @@ said (command.Output p) = output p
 said command.State = state
 said (command.Pair f) = pair f.now
 
-abbrev pub said_some : Option Command → Option Said
-said_some (Some c) = Some (said c)
-said_some None = None
-
 -- the table of commands
-abbrev row : String → Verb → CommandRow
-row name v = record { name = filled (codes name); verb = v }
+abbrev row : String → Verb → Named Verb
+row name v = record { name = filled (codes name); value = v }
 
-abbrev pub command_rows : List CommandRow
+abbrev pub command_rows : List (Named Verb)
 command_rows =
     row "text" verb.Text
     ∷ row "word" verb.Word
@@ -95,12 +89,9 @@ command_rows =
     ∷ row "pair" verb.Pair
     ∷ []
 
-abbrev pub row_named : Option Name → Option CommandRow
-row_named (Some name) = first_match (λ (r : CommandRow). bytes_eq r.name.letters name.letters) command_rows
-row_named None = None
-
+-- what a name stands for
 abbrev pub verb_of : List ℕ → Option Verb
-verb_of name = option_map (λ (r : CommandRow). r.verb) (row_named (name_of name))
+verb_of name = named command_rows name
 
 -- a split memory: its first area is given by its size or by a file
 abbrev pub area_by : Option ℕ → Option ℕ → List ℕ → Option Said
@@ -150,14 +141,6 @@ taken_of verb.Out rest = option_map output (one_number rest 4294967295)
 taken_of verb.State rest = alone_said rest state
 taken_of verb.Pair rest = option_map pair rest
 
-abbrev pub or_unknown : Option Said → Said
-or_unknown (Some s) = s
-or_unknown None = unknown
-
-abbrev pub taken_by : Option Verb → Option (List ℕ) → Said
-taken_by (Some v) rest = or_unknown (taken_of v rest)
-taken_by None rest = unknown
-
 -- blank lines and comments are passed over
 abbrev pub is_blank : List ℕ → Bool
 is_blank [] = true
@@ -166,8 +149,9 @@ is_blank (c ∷ cs) = c == 32 && is_blank cs
 abbrev pub passed_over : List ℕ → Bool
 passed_over line = is_blank line || slice_index line 0 == 35
 
-abbrev pub command_in : Parts → Said
-command_in words = taken_by (verb_of words.word) words.rest
+-- the command that the first word stands for, if what it takes stands behind it
+abbrev pub command_in : Parts → Option Said
+command_in words = option_and_then (λ (v : Verb). taken_of v words.rest) (verb_of words.word)
 
 abbrev pub command_of : List ℕ → Said
-command_of line = cond (passed_over line) nothing (command_in (split_of line))
+command_of line = if passed_over line then nothing else unwrap_or (command_in (split_of line)) unknown
