@@ -6,13 +6,19 @@ ghost use Rattle.monitor.specs.Commands.{command_rows, memory_of, area_of, said,
 
 use crate::arguments::{one_number, two_numbers};
 use crate::numbers::parse_number;
-use crate::words::{same_word, split_word};
+use crate::words::split_word;
 use names::{Name, Named, find_named};
 
 /// The most bytes that `bytes` shows.
 const MOST_SHOWN: u32 = 65536;
 
 const MOST_WORD: u32 = 65535;
+
+/// The word behind `memory` that asks for a flat memory.
+const FLAT: &[u8] = b"flat";
+
+/// The word behind `memory` that asks for a split memory.
+const SPLIT: &[u8] = b"split";
 
 /// A command's name stands for one of these.
 #[derive(Clone, Copy, PartialEq, Eq, Debug)]
@@ -210,14 +216,13 @@ fn memory<'a>(line: &'a [u8]) -> Option<Command<'a>>
     ensures { option_map said result ≡ memory_of line.now }
 {
     let words = split_word(line);
-    if same_word(words.word, b"flat") {
-        let size = one_number(words.rest, u32::MAX)?;
-        return Some(Command::FlatMemory { size });
+    if words.word == FLAT {
+        one_number(words.rest, u32::MAX).map(|size| Command::FlatMemory { size })
+    } else if words.word == SPLIT {
+        split_memory(words.rest?)
+    } else {
+        None
     }
-    if same_word(words.word, b"split") {
-        return split_memory(words.rest?);
-    }
-    None
 }
 
 /// A split memory over areas of these sizes, or over a file and an area of this size.
