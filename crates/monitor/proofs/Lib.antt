@@ -1,3 +1,1 @@
 mod Blanks
-mod Digits
-mod Tails
