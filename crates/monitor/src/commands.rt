@@ -1,8 +1,8 @@
 //! The monitor's commands: one table of their names, and what each takes behind its name.
-ghost use Rattle.std.specs.Prelude.{◌≡◌, ◌<◌, false, length};
+ghost use Rattle.std.specs.Prelude.{◌≡◌};
 ghost use Rattle.std.specs.Option.{option_map};
 ghost use Rattle.monitor.specs.Words.{lent, split_of};
-ghost use Rattle.monitor.specs.Commands.{command_rows, memory_of, area_of, said, alone_said, taken_of, is_blank, passed_over, command_in, command_of};
+ghost use Rattle.monitor.specs.Commands.{command_rows, memory_of, area_of, said, taken_of, is_blank, passed_over, command_in, command_of};
 
 use crate::arguments::{one_number, two_numbers};
 use crate::numbers::parse_number;
@@ -21,6 +21,7 @@ const FLAT: &[u8] = b"flat";
 const SPLIT: &[u8] = b"split";
 
 /// A command's name stands for one of these.
+// An enum and not a function in each row: such a table would hand out function pointers.
 #[derive(Clone, Copy, PartialEq, Eq, Debug)]
 pub enum Verb {
     Text,
@@ -75,7 +76,8 @@ const COMMANDS: [Named<Verb>; 18] = rows![
 ];
 
 /// What a line asks for. File names and texts are parts of the line itself.
-#[derive(Clone, Copy)]
+// `Nothing` and `Unknown` stand among the commands: what answers a line meets them in the same `match`.
+#[derive(Clone, Copy, PartialEq, Eq, Debug)]
 pub enum Command<'a> {
     /// A blank line or a comment.
     Nothing,
@@ -125,20 +127,14 @@ fn command_in<'a>(line: &'a [u8]) -> Option<Command<'a>>
 fn is_passed_over(line: &[u8]) -> bool
     ensures { result ≡ passed_over line.now }
 {
-    is_blank(line) || line[0] == b'#'
+    is_blank(line) || line.first() == Some(&b'#')
 }
 
 /// Whether a line has nothing but blanks.
 fn is_blank(line: &[u8]) -> bool
-    ensures value { result ≡ is_blank line.now }
-    ensures bound { result ≡ false → 0 < length line.now }
+    ensures { result ≡ is_blank line.now }
 {
-    for byte in line {
-        if *byte != b' ' {
-            return false;
-        }
-    }
-    true
+    line.iter().all(|byte| *byte == b' ')
 }
 
 /// The table of commands.
@@ -153,61 +149,31 @@ fn taken<'a>(verb: Verb, rest: Option<&'a [u8]>) -> Option<Command<'a>>
     ensures { option_map said result ≡ taken_of verb (lent rest.entry) }
 {
     match verb {
-        Verb::Text => {
-            let word = one_number(rest, MOST_WORD)? as u16;
-            Some(Command::Text { word })
-        }
-        Verb::Word => Some(Command::Word { text: rest? }),
-        Verb::List => Some(Command::List { file: rest? }),
-        Verb::Load => Some(Command::Load { file: rest? }),
-        Verb::Pair => Some(Command::Pair { file: rest? }),
+        Verb::Text => one_number(rest, MOST_WORD).map(|word| Command::Text { word: word as u16 }),
+        Verb::Word => rest.map(|text| Command::Word { text }),
+        Verb::List => rest.map(|file| Command::List { file }),
+        Verb::Load => rest.map(|file| Command::Load { file }),
+        Verb::Pair => rest.map(|file| Command::Pair { file }),
         Verb::Memory => memory(rest?),
         Verb::Bytes => {
-            let pair = two_numbers(rest, u32::MAX, MOST_SHOWN)?;
-            Some(Command::Bytes {
-                address: pair.first,
-                count: pair.second,
-            })
+            let (address, count) = two_numbers(rest, u32::MAX, MOST_SHOWN)?;
+            Some(Command::Bytes { address, count })
         }
-        Verb::Run => Some(Command::Run {
-            steps: one_number(rest, u32::MAX)?,
-        }),
-        Verb::UserRun => Some(Command::UserRun {
-            steps: one_number(rest, u32::MAX)?,
-        }),
-        Verb::Raise => Some(Command::Raise {
-            line: one_number(rest, u32::MAX)?,
-        }),
+        Verb::Run => one_number(rest, u32::MAX).map(|steps| Command::Run { steps }),
+        Verb::UserRun => one_number(rest, u32::MAX).map(|steps| Command::UserRun { steps }),
+        Verb::Raise => one_number(rest, u32::MAX).map(|line| Command::Raise { line }),
         Verb::Drive => {
-            let pair = two_numbers(rest, u32::MAX, MOST_WORD)?;
-            Some(Command::Drive {
-                port: pair.first,
-                word: pair.second as u16,
-            })
+            let (port, word) = two_numbers(rest, u32::MAX, MOST_WORD)?;
+            let word = word as u16;
+            Some(Command::Drive { port, word })
         }
-        Verb::Reg => Some(Command::Register {
-            number: one_number(rest, u32::MAX)?,
-        }),
-        Verb::Sys => Some(Command::SystemRegister {
-            number: one_number(rest, u32::MAX)?,
-        }),
-        Verb::Out => Some(Command::Output {
-            port: one_number(rest, u32::MAX)?,
-        }),
-        Verb::Reset => alone(rest, Command::Reset),
-        Verb::Step => alone(rest, Command::Step),
-        Verb::Pc => alone(rest, Command::Pc),
-        Verb::State => alone(rest, Command::State),
-    }
-}
-
-/// A command that takes nothing.
-fn alone<'a>(rest: Option<&'a [u8]>, command: Command<'a>) -> Option<Command<'a>>
-    ensures { option_map said result ≡ alone_said (lent rest.entry) (said command.entry) }
-{
-    match rest {
-        Some(_) => None,
-        None => Some(command),
+        Verb::Reg => one_number(rest, u32::MAX).map(|number| Command::Register { number }),
+        Verb::Sys => one_number(rest, u32::MAX).map(|number| Command::SystemRegister { number }),
+        Verb::Out => one_number(rest, u32::MAX).map(|port| Command::Output { port }),
+        Verb::Reset => rest.is_none().then_some(Command::Reset),
+        Verb::Step => rest.is_none().then_some(Command::Step),
+        Verb::Pc => rest.is_none().then_some(Command::Pc),
+        Verb::State => rest.is_none().then_some(Command::State),
     }
 }
 
@@ -230,12 +196,10 @@ fn split_memory<'a>(line: &'a [u8]) -> Option<Command<'a>>
     ensures { option_map said result ≡ area_of line.now }
 {
     let words = split_word(line);
+    let file = words.word;
     let plain = one_number(words.rest, u32::MAX)?;
-    match parse_number(words.word, u32::MAX) {
-        Some(fixed) => Some(Command::SplitMemory { fixed, plain }),
-        None => Some(Command::SplitMemoryOver {
-            file: words.word,
-            plain,
-        }),
-    }
+    Some(match parse_number(file, u32::MAX) {
+        Some(fixed) => Command::SplitMemory { fixed, plain },
+        None => Command::SplitMemoryOver { file, plain },
+    })
 }
