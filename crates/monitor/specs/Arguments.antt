@@ -1,25 +1,20 @@
 -- What may stand behind a command's name.
-use Rattle.std.specs.Prelude.{ℕ, ◌≤◌, List, Some, None, Option}
-use Rattle.monitor.specs.declared.arguments.Pair.{Pair}
-use Rattle.monitor.specs.Words.{split_of}
+use Rattle.std.specs.Prelude.{ℕ, ◌≤◌, List, Option}
+use Rattle.std.specs.Option.{option_and_then, option_zip, IfSome}
+use Rattle.monitor.specs.Words.{Parts, split_of}
 use Rattle.monitor.specs.Numbers.{number_of}
 
 -- one number of at most `most`
 abbrev pub one_number : Option (List ℕ) → ℕ → Option ℕ
-one_number (Some word) most = number_of word most
-one_number None most = None
+one_number rest most = option_and_then (λ word. number_of word most) rest
 
-abbrev pub pair_of : Option ℕ → Option ℕ → Option Pair
-pair_of (Some a) (Some b) = Some (record { first = a; second = b })
-pair_of (Some a) None = None
-pair_of None b = None
+abbrev pub numbers_in : Parts → ℕ → ℕ → Option (ℕ × ℕ)
+numbers_in words first second = option_zip (number_of words.word first) (one_number words.rest second)
 
 -- two numbers, each of at most what it may be
-abbrev pub two_numbers : Option (List ℕ) → ℕ → ℕ → Option Pair
-two_numbers (Some line) first second = pair_of (number_of (split_of line).word first) (one_number (split_of line).rest second)
-two_numbers None first second = None
+abbrev pub two_numbers : Option (List ℕ) → ℕ → ℕ → Option (ℕ × ℕ)
+two_numbers rest first second = option_and_then (λ line. numbers_in (split_of line) first second) rest
 
 -- the numbers that were read are at most what they may be
-abbrev pub BothWithin : ℕ → ℕ → Option Pair → Type 0
-BothWithin first second (Some p) = (p.first ≤ first) × (p.second ≤ second)
-BothWithin first second None = Unit {0}
+abbrev pub BothWithin : ℕ → ℕ → Option (ℕ × ℕ) → Type 0
+BothWithin first second numbers = IfSome numbers (λ n. (n.0 ≤ first) × (n.1 ≤ second))

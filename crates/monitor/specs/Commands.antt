@@ -1,15 +1,14 @@
 -- The command that a line is.
-use Rattle.std.specs.Prelude.{ℕ, Bool, true, cond, ◌&&◌, ◌||◌, List, [], ◌∷◌, Some, None, codes, Option, ◌==◌, slice_index}
+use Rattle.std.specs.Prelude.{ℕ, Bool, if◌then◌else◌, ◌||◌, List, [], ◌∷◌, Some, None, codes, Option, ◌==◌, slice_index}
 use Prim.Native.String.{String}
-use Rattle.std.specs.Option.{option_map}
+use Rattle.std.specs.Option.{is_none, option_and_then, option_map, unwrap_or}
+use Rattle.std.specs.Bool.{then_some}
+use Rattle.std.specs.List.{list_all}
 use Rattle.std.specs.Str.{bytes_eq}
-use Rattle.search.specs.First.{first_match}
-use Rattle.names.specs.declared.Name.{Name}
-use Rattle.names.specs.Names.{filled, name_of}
-use Rattle.monitor.specs.declared.arguments.Pair.{Pair}
+use Rattle.names.specs.declared.Named.{Named}
+use Rattle.names.specs.Names.{filled, named}
 use Rattle.monitor.specs.declared.commands.Verb.{Verb}
 use Rattle.monitor.specs.declared.commands.Verb.TheVariants as verb
-use Rattle.monitor.specs.declared.commands.CommandRow.{CommandRow}
 use Rattle.monitor.specs.declared.commands.Command.{Command}
 use Rattle.monitor.specs.declared.commands.Command.TheVariants as command
 use Rattle.monitor.specs.Words.{Parts, split_of}
@@ -65,15 +64,11 @@ said (command.Output p) = output p
 said command.State = state
 said (command.Pair f) = pair f.now
 
-abbrev pub said_some : Option Command → Option Said
-said_some (Some c) = Some (said c)
-said_some None = None
-
 -- the table of commands
-abbrev row : String → Verb → CommandRow
-row name v = record { name = filled (codes name); verb = v }
+abbrev row : String → Verb → Named Verb
+row name v = record { name = filled (codes name); value = v }
 
-abbrev pub command_rows : List CommandRow
+abbrev pub command_rows : List (Named Verb)
 command_rows =
     row "text" verb.Text
     ∷ row "word" verb.Word
@@ -95,39 +90,33 @@ command_rows =
     ∷ row "pair" verb.Pair
     ∷ []
 
-abbrev pub row_named : Option Name → Option CommandRow
-row_named (Some name) = first_match (λ (r : CommandRow). bytes_eq r.name.letters name.letters) command_rows
-row_named None = None
-
+-- what a name stands for
 abbrev pub verb_of : List ℕ → Option Verb
-verb_of name = option_map (λ (r : CommandRow). r.verb) (row_named (name_of name))
+verb_of name = named command_rows name
 
 -- a split memory: its first area is given by its size or by a file
-abbrev pub area_by : Option ℕ → Option ℕ → List ℕ → Option Said
-area_by (Some plain) (Some fixed) file = Some (split_memory fixed plain)
-area_by (Some plain) None file = Some (split_memory_over file plain)
-area_by None fixed file = None
+abbrev pub area_by : ℕ → Option ℕ → List ℕ → Said
+area_by plain (Some fixed) file = split_memory fixed plain
+area_by plain None file = split_memory_over file plain
+
+abbrev pub area_in : Parts → Option Said
+area_in words = option_map (λ plain. area_by plain (number_of words.word 4294967295) words.word) (one_number words.rest 4294967295)
 
 abbrev pub area_of : List ℕ → Option Said
-area_of line = area_by (one_number (split_of line).rest 4294967295) (number_of (split_of line).word 4294967295) (split_of line).word
+area_of line = area_in (split_of line)
 
-abbrev pub area_after : Option (List ℕ) → Option Said
-area_after (Some line) = area_of line
-area_after None = None
+abbrev pub memory_in : Parts → Option Said
+memory_in words =
+    if bytes_eq words.word (codes "flat") then option_map flat_memory (one_number words.rest 4294967295)
+    else if bytes_eq words.word (codes "split") then option_and_then area_of words.rest
+    else None
 
 abbrev pub memory_of : List ℕ → Option Said
-memory_of line =
-    cond (bytes_eq (split_of line).word (codes "flat")) (option_map flat_memory (one_number (split_of line).rest 4294967295))
-    (cond (bytes_eq (split_of line).word (codes "split")) (area_after (split_of line).rest) None)
-
-abbrev pub memory_after : Option (List ℕ) → Option Said
-memory_after (Some line) = memory_of line
-memory_after None = None
+memory_of line = memory_in (split_of line)
 
 -- a command that takes nothing
-abbrev pub alone_said : Option (List ℕ) → Said → Option Said
-alone_said (Some rest) s = None
-alone_said None s = Some s
+abbrev pub alone : Option (List ℕ) → Said → Option Said
+alone rest s = then_some (is_none rest) s
 
 -- the command with what stands behind its name
 abbrev pub taken_of : Verb → Option (List ℕ) → Option Said
@@ -135,39 +124,31 @@ taken_of verb.Text rest = option_map text (one_number rest 65535)
 taken_of verb.Word rest = option_map word rest
 taken_of verb.List rest = option_map list rest
 taken_of verb.Load rest = option_map load rest
-taken_of verb.Memory rest = memory_after rest
-taken_of verb.Bytes rest = option_map (λ (p : Pair). bytes p.first p.second) (two_numbers rest 4294967295 65536)
-taken_of verb.Reset rest = alone_said rest reset
-taken_of verb.Step rest = alone_said rest step
+taken_of verb.Memory rest = option_and_then memory_of rest
+taken_of verb.Bytes rest = option_map (λ p. bytes p.0 p.1) (two_numbers rest 4294967295 65536)
+taken_of verb.Reset rest = alone rest reset
+taken_of verb.Step rest = alone rest step
 taken_of verb.Run rest = option_map run (one_number rest 4294967295)
 taken_of verb.UserRun rest = option_map user_run (one_number rest 4294967295)
 taken_of verb.Raise rest = option_map raise (one_number rest 4294967295)
-taken_of verb.Drive rest = option_map (λ (p : Pair). drive p.first p.second) (two_numbers rest 4294967295 65535)
+taken_of verb.Drive rest = option_map (λ p. drive p.0 p.1) (two_numbers rest 4294967295 65535)
 taken_of verb.Reg rest = option_map register (one_number rest 4294967295)
 taken_of verb.Sys rest = option_map system_register (one_number rest 4294967295)
-taken_of verb.Pc rest = alone_said rest pc
+taken_of verb.Pc rest = alone rest pc
 taken_of verb.Out rest = option_map output (one_number rest 4294967295)
-taken_of verb.State rest = alone_said rest state
+taken_of verb.State rest = alone rest state
 taken_of verb.Pair rest = option_map pair rest
-
-abbrev pub or_unknown : Option Said → Said
-or_unknown (Some s) = s
-or_unknown None = unknown
-
-abbrev pub taken_by : Option Verb → Option (List ℕ) → Said
-taken_by (Some v) rest = or_unknown (taken_of v rest)
-taken_by None rest = unknown
 
 -- blank lines and comments are passed over
 abbrev pub is_blank : List ℕ → Bool
-is_blank [] = true
-is_blank (c ∷ cs) = c == 32 && is_blank cs
+is_blank line = list_all (λ c. c == 32) line
 
 abbrev pub passed_over : List ℕ → Bool
 passed_over line = is_blank line || slice_index line 0 == 35
 
-abbrev pub command_in : Parts → Said
-command_in words = taken_by (verb_of words.word) words.rest
+-- the command that the first word stands for, if what it takes stands behind it
+abbrev pub command_in : Parts → Option Said
+command_in words = option_and_then (λ (v : Verb). taken_of v words.rest) (verb_of words.word)
 
 abbrev pub command_of : List ℕ → Said
-command_of line = cond (passed_over line) nothing (command_in (split_of line))
+command_of line = if passed_over line then nothing else unwrap_or (command_in (split_of line)) unknown

@@ -1,33 +1,33 @@
 -- The numbers of commands: decimal, or hexadecimal after 0x.
-use Rattle.std.specs.Prelude.{ℕ, ◌+◌, ◌-◌, ◌*◌, ◌≤◌, Bool, cond, ◌&&◌, List, [], ◌∷◌, length, drop, Some, None, Option, ◌==◌, nat_le, nat_lt, slice_index}
+use Rattle.std.specs.Prelude.{ℕ, ◌+◌, ◌*◌, ◌≤◌, Bool, if◌then◌else◌, ◌&&◌, List, [], ◌∷◌, drop, codes, Some, None, Option, nat_eq, nat_le, nat_lt}
+use Rattle.std.specs.Bool.{then_some}
+use Rattle.std.specs.Char.{digit_value, is_digit}
+use Rattle.std.specs.List.{starts_with}
+use Rattle.std.specs.Option.{option_and_then, IfSome}
 
 -- a number that was read is at most `most`
 abbrev pub Within : ℕ → Option ℕ → Type 0
-Within most (Some n) = n ≤ most
-Within most None = Unit {0}
+Within most number = IfSome number (λ n. n ≤ most)
 
--- a character from one to another
-abbrev between : ℕ → ℕ → ℕ → Bool
-between low high c = nat_le low c && nat_le c high
+-- the value of a digit, of the decimal or of the hexadecimal ones
+abbrev pub digit_of : ℕ → Option ℕ
+digit_of c = then_some (is_digit c 16) (digit_value c)
 
--- the value of a digit; 99, which is below no base, for what is none
-abbrev pub digit_of : ℕ → ℕ
-digit_of c = cond (between 48 57 c) (c - 48) (cond (between 65 70 c) (c - 55) (cond (between 97 102 c) (c - 87) 99))
+-- the value of the digits of `high` and one more, if that is one of the base and the number does not pass `most`
+abbrev pub with_digit : ℕ → ℕ → ℕ → ℕ → Option ℕ
+with_digit base most high c = option_and_then (λ d. then_some (nat_lt d base && nat_le (high * base + d) most) (high * base + d)) (digit_of c)
 
--- the value of the digits behind those of `high`, if each is one of the base and the number does not pass `most`
+-- the value of the digits behind those of `high`
 abbrev pub value_from : ℕ → ℕ → ℕ → List ℕ → Option ℕ
 value_from base most high [] = Some high
-value_from base most high (c ∷ cs) =
-    cond (nat_lt (digit_of c) base)
-    (cond (nat_lt most (high * base + digit_of c)) None (value_from base most (high * base + digit_of c) cs))
-    None
+value_from base most high (c ∷ cs) = option_and_then (λ value. value_from base most value cs) (with_digit base most high c)
 
 abbrev pub digits_of : ℕ → ℕ → List ℕ → Option ℕ
 digits_of base most [] = None
 digits_of base most (c ∷ cs) = value_from base most 0 (c ∷ cs)
 
 abbrev pub is_hexadecimal : List ℕ → Bool
-is_hexadecimal word = nat_le 2 (length word) && (slice_index word 0 == 48 && slice_index word 1 == 120)
+is_hexadecimal word = starts_with nat_eq word (codes "0x")
 
 abbrev pub number_of : List ℕ → ℕ → Option ℕ
-number_of word most = cond (is_hexadecimal word) (digits_of 16 most (drop 2 word)) (digits_of 10 most word)
+number_of word most = if is_hexadecimal word then digits_of 16 most (drop 2 word) else digits_of 10 most word

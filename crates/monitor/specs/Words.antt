@@ -24,8 +24,4 @@ split_behind word line =
     }
 
 abbrev pub split_of : List ℕ → Parts
-split_of line =
-    record {
-      word = first_word line;
-      rest = cond (nat_lt (length (first_word line)) (length line)) (Some (drop (length (first_word line) + 1) line)) None;
-    }
+split_of line = split_behind (first_word line) line

@@ -1,23 +1,28 @@
 //! The monitor's commands: one table of their names, and what each takes behind its name.
-ghost use Rattle.std.specs.Prelude.{◌≡◌, ◌<◌, false, length};
-ghost use Rattle.std.specs.Str.{bytes_eq};
-ghost use Rattle.names.specs.Names.{name_of};
-ghost use Rattle.monitor.specs.Words.{lent};
-ghost use Rattle.monitor.specs.Commands.{command_rows, row_named, verb_of, memory_of, area_of, said, said_some, alone_said, taken_of, or_unknown, is_blank, passed_over, command_of};
+ghost use Rattle.std.specs.Prelude.{◌≡◌};
+ghost use Rattle.std.specs.Option.{option_map};
+ghost use Rattle.monitor.specs.Words.{lent, split_of};
+ghost use Rattle.monitor.specs.Commands.{command_rows, memory_of, area_of, said, taken_of, is_blank, passed_over, command_in, command_of};
 
 use crate::arguments::{one_number, two_numbers};
 use crate::numbers::parse_number;
-use crate::words::{same_word, split_word};
-use names::Name;
-use search::{Entry, first_match};
+use crate::words::split_word;
+use names::{Name, Named, find_named};
 
 /// The most bytes that `bytes` shows.
 const MOST_SHOWN: u32 = 65536;
 
 const MOST_WORD: u32 = 65535;
 
+/// The word behind `memory` that asks for a flat memory.
+const FLAT: &[u8] = b"flat";
+
+/// The word behind `memory` that asks for a split memory.
+const SPLIT: &[u8] = b"split";
+
 /// A command's name stands for one of these.
-#[derive(Clone, Copy)]
+// An enum and not a function in each row: such a table would hand out function pointers.
+#[derive(Clone, Copy, PartialEq, Eq, Debug)]
 pub enum Verb {
     Text,
     Word,
@@ -39,136 +44,40 @@ pub enum Verb {
     Pair,
 }
 
-/// A row of the table of commands.
-#[derive(Clone, Copy)]
-pub struct CommandRow {
-    pub name: Name,
-    pub verb: Verb,
+/// The rows of a table: names, filled up with blanks, and what they stand for.
+macro_rules! rows {
+    ($($letters:literal => $verb:ident,)+) => {
+        [$(Named {
+            name: Name { letters: *$letters },
+            value: Verb::$verb,
+        }),+]
+    };
 }
 
-impl Entry for CommandRow {
-    type Key = Name;
-
-    ghost matched = { λ row name. bytes_eq row.name.letters name.letters };
-
-    fn matches(&self, name: Name) -> bool {
-        self.name.is(name)
-    }
-}
-
-const COMMANDS: [CommandRow; 18] = [
-    CommandRow {
-        name: Name {
-            letters: *b"text    ",
-        },
-        verb: Verb::Text,
-    },
-    CommandRow {
-        name: Name {
-            letters: *b"word    ",
-        },
-        verb: Verb::Word,
-    },
-    CommandRow {
-        name: Name {
-            letters: *b"list    ",
-        },
-        verb: Verb::List,
-    },
-    CommandRow {
-        name: Name {
-            letters: *b"memory  ",
-        },
-        verb: Verb::Memory,
-    },
-    CommandRow {
-        name: Name {
-            letters: *b"load    ",
-        },
-        verb: Verb::Load,
-    },
-    CommandRow {
-        name: Name {
-            letters: *b"bytes   ",
-        },
-        verb: Verb::Bytes,
-    },
-    CommandRow {
-        name: Name {
-            letters: *b"reset   ",
-        },
-        verb: Verb::Reset,
-    },
-    CommandRow {
-        name: Name {
-            letters: *b"step    ",
-        },
-        verb: Verb::Step,
-    },
-    CommandRow {
-        name: Name {
-            letters: *b"run     ",
-        },
-        verb: Verb::Run,
-    },
-    CommandRow {
-        name: Name {
-            letters: *b"user-run",
-        },
-        verb: Verb::UserRun,
-    },
-    CommandRow {
-        name: Name {
-            letters: *b"raise   ",
-        },
-        verb: Verb::Raise,
-    },
-    CommandRow {
-        name: Name {
-            letters: *b"drive   ",
-        },
-        verb: Verb::Drive,
-    },
-    CommandRow {
-        name: Name {
-            letters: *b"reg     ",
-        },
-        verb: Verb::Reg,
-    },
-    CommandRow {
-        name: Name {
-            letters: *b"sys     ",
-        },
-        verb: Verb::Sys,
-    },
-    CommandRow {
-        name: Name {
-            letters: *b"pc      ",
-        },
-        verb: Verb::Pc,
-    },
-    CommandRow {
-        name: Name {
-            letters: *b"out     ",
-        },
-        verb: Verb::Out,
-    },
-    CommandRow {
-        name: Name {
-            letters: *b"state   ",
-        },
-        verb: Verb::State,
-    },
-    CommandRow {
-        name: Name {
-            letters: *b"pair    ",
-        },
-        verb: Verb::Pair,
-    },
+const COMMANDS: [Named<Verb>; 18] = rows![
+    b"text    " => Text,
+    b"word    " => Word,
+    b"list    " => List,
+    b"memory  " => Memory,
+    b"load    " => Load,
+    b"bytes   " => Bytes,
+    b"reset   " => Reset,
+    b"step    " => Step,
+    b"run     " => Run,
+    b"user-run" => UserRun,
+    b"raise   " => Raise,
+    b"drive   " => Drive,
+    b"reg     " => Reg,
+    b"sys     " => Sys,
+    b"pc      " => Pc,
+    b"out     " => Out,
+    b"state   " => State,
+    b"pair    " => Pair,
 ];
 
 /// What a line asks for. File names and texts are parts of the line itself.
-#[derive(Clone, Copy)]
+// `Nothing` and `Unknown` stand among the commands: what answers a line meets them in the same `match`.
+#[derive(Clone, Copy, PartialEq, Eq, Debug)]
 pub enum Command<'a> {
     /// A blank line or a comment.
     Nothing,
@@ -202,158 +111,95 @@ pub fn parse_command<'a>(line: &'a [u8]) -> Command<'a>
     if is_passed_over(line) {
         return Command::Nothing;
     }
+    command_in(line).unwrap_or(Command::Unknown)
+}
+
+/// The command that the first word of a line stands for, if what it takes stands behind it.
+fn command_in<'a>(line: &'a [u8]) -> Option<Command<'a>>
+    ensures { option_map said result ≡ command_in (split_of line.now) }
+{
     let words = split_word(line);
-    match verb_named(words.word) {
-        Some(verb) => or_unknown(taken(verb, words.rest)),
-        None => Command::Unknown,
-    }
+    let verb = find_named(command_rows(), words.word)?;
+    taken(verb, words.rest)
 }
 
 /// Whether a line is blank or a comment.
 fn is_passed_over(line: &[u8]) -> bool
     ensures { result ≡ passed_over line.now }
 {
-    is_blank(line) || line[0] == b'#'
+    is_blank(line) || line.first() == Some(&b'#')
 }
 
 /// Whether a line has nothing but blanks.
 fn is_blank(line: &[u8]) -> bool
-    ensures value { result ≡ is_blank line.now }
-    ensures bound { result ≡ false → 0 < length line.now }
+    ensures { result ≡ is_blank line.now }
 {
-    for byte in line {
-        if *byte != b' ' {
-            return false;
-        }
-    }
-    true
-}
-
-fn or_unknown<'a>(taken: Option<Command<'a>>) -> Command<'a>
-    ensures { said result ≡ or_unknown (said_some taken.entry) }
-{
-    match taken {
-        Some(command) => command,
-        None => Command::Unknown,
-    }
+    line.iter().all(|byte| *byte == b' ')
 }
 
 /// The table of commands.
-fn command_rows() -> &'static [CommandRow]
+fn command_rows() -> &'static [Named<Verb>]
     ensures { result.now ≡ command_rows }
 {
     &COMMANDS
 }
 
-/// The row of a name.
-fn row_named(word: &[u8]) -> Option<CommandRow>
-    ensures { result ≡ row_named (name_of word.now) }
-{
-    match Name::of(word) {
-        Some(name) => first_match(command_rows(), name),
-        None => None,
-    }
-}
-
-/// What a name stands for.
-fn verb_named(word: &[u8]) -> Option<Verb>
-    ensures { result ≡ verb_of word.now }
-{
-    match row_named(word) {
-        Some(row) => Some(row.verb),
-        None => None,
-    }
-}
-
 /// The command with what stands behind its name, if that is what it takes.
 fn taken<'a>(verb: Verb, rest: Option<&'a [u8]>) -> Option<Command<'a>>
-    ensures { said_some result ≡ taken_of verb (lent rest.entry) }
+    ensures { option_map said result ≡ taken_of verb (lent rest.entry) }
 {
     match verb {
-        Verb::Text => {
-            let word = one_number(rest, MOST_WORD)? as u16;
-            Some(Command::Text { word })
-        }
-        Verb::Word => Some(Command::Word { text: rest? }),
-        Verb::List => Some(Command::List { file: rest? }),
-        Verb::Load => Some(Command::Load { file: rest? }),
-        Verb::Pair => Some(Command::Pair { file: rest? }),
+        Verb::Text => one_number(rest, MOST_WORD).map(|word| Command::Text { word: word as u16 }),
+        Verb::Word => rest.map(|text| Command::Word { text }),
+        Verb::List => rest.map(|file| Command::List { file }),
+        Verb::Load => rest.map(|file| Command::Load { file }),
+        Verb::Pair => rest.map(|file| Command::Pair { file }),
         Verb::Memory => memory(rest?),
         Verb::Bytes => {
-            let pair = two_numbers(rest, u32::MAX, MOST_SHOWN)?;
-            Some(Command::Bytes {
-                address: pair.first,
-                count: pair.second,
-            })
+            let (address, count) = two_numbers(rest, u32::MAX, MOST_SHOWN)?;
+            Some(Command::Bytes { address, count })
         }
-        Verb::Run => Some(Command::Run {
-            steps: one_number(rest, u32::MAX)?,
-        }),
-        Verb::UserRun => Some(Command::UserRun {
-            steps: one_number(rest, u32::MAX)?,
-        }),
-        Verb::Raise => Some(Command::Raise {
-            line: one_number(rest, u32::MAX)?,
-        }),
+        Verb::Run => one_number(rest, u32::MAX).map(|steps| Command::Run { steps }),
+        Verb::UserRun => one_number(rest, u32::MAX).map(|steps| Command::UserRun { steps }),
+        Verb::Raise => one_number(rest, u32::MAX).map(|line| Command::Raise { line }),
         Verb::Drive => {
-            let pair = two_numbers(rest, u32::MAX, MOST_WORD)?;
-            Some(Command::Drive {
-                port: pair.first,
-                word: pair.second as u16,
-            })
+            let (port, word) = two_numbers(rest, u32::MAX, MOST_WORD)?;
+            let word = word as u16;
+            Some(Command::Drive { port, word })
         }
-        Verb::Reg => Some(Command::Register {
-            number: one_number(rest, u32::MAX)?,
-        }),
-        Verb::Sys => Some(Command::SystemRegister {
-            number: one_number(rest, u32::MAX)?,
-        }),
-        Verb::Out => Some(Command::Output {
-            port: one_number(rest, u32::MAX)?,
-        }),
-        Verb::Reset => alone(rest, Command::Reset),
-        Verb::Step => alone(rest, Command::Step),
-        Verb::Pc => alone(rest, Command::Pc),
-        Verb::State => alone(rest, Command::State),
-    }
-}
-
-/// A command that takes nothing.
-fn alone<'a>(rest: Option<&'a [u8]>, command: Command<'a>) -> Option<Command<'a>>
-    ensures { said_some result ≡ alone_said (lent rest.entry) (said command.entry) }
-{
-    match rest {
-        Some(_) => None,
-        None => Some(command),
+        Verb::Reg => one_number(rest, u32::MAX).map(|number| Command::Register { number }),
+        Verb::Sys => one_number(rest, u32::MAX).map(|number| Command::SystemRegister { number }),
+        Verb::Out => one_number(rest, u32::MAX).map(|port| Command::Output { port }),
+        Verb::Reset => rest.is_none().then_some(Command::Reset),
+        Verb::Step => rest.is_none().then_some(Command::Step),
+        Verb::Pc => rest.is_none().then_some(Command::Pc),
+        Verb::State => rest.is_none().then_some(Command::State),
     }
 }
 
 /// The memory that `flat N`, `split R W` or `split FILE W` asks for.
 fn memory<'a>(line: &'a [u8]) -> Option<Command<'a>>
-    ensures { said_some result ≡ memory_of line.now }
+    ensures { option_map said result ≡ memory_of line.now }
 {
     let words = split_word(line);
-    if same_word(words.word, b"flat") {
-        let size = one_number(words.rest, u32::MAX)?;
-        return Some(Command::FlatMemory { size });
+    if words.word == FLAT {
+        one_number(words.rest, u32::MAX).map(|size| Command::FlatMemory { size })
+    } else if words.word == SPLIT {
+        split_memory(words.rest?)
+    } else {
+        None
     }
-    if same_word(words.word, b"split") {
-        return split_memory(words.rest?);
-    }
-    None
 }
 
 /// A split memory over areas of these sizes, or over a file and an area of this size.
 fn split_memory<'a>(line: &'a [u8]) -> Option<Command<'a>>
-    ensures { said_some result ≡ area_of line.now }
+    ensures { option_map said result ≡ area_of line.now }
 {
     let words = split_word(line);
+    let file = words.word;
     let plain = one_number(words.rest, u32::MAX)?;
-    match parse_number(words.word, u32::MAX) {
-        Some(fixed) => Some(Command::SplitMemory { fixed, plain }),
-        None => Some(Command::SplitMemoryOver {
-            file: words.word,
-            plain,
-        }),
-    }
+    Some(match parse_number(file, u32::MAX) {
+        Some(fixed) => Command::SplitMemory { fixed, plain },
+        None => Command::SplitMemoryOver { file, plain },
+    })
 }

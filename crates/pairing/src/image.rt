@@ -1,5 +1,5 @@
 //! What lies in a machine's memory before its supervisor starts.
-ghost use Rattle.std.specs.Prelude.{◌≡◌, length, slice_index};
+ghost use Rattle.std.specs.Prelude.{◌≡◌, length};
 ghost use Rattle.pairing.specs.Images.{word_byte, image_byte, image_bytes};
 
 use memory::FRAME_SIZE;
@@ -17,7 +17,7 @@ const USER: usize = 40 * FRAME_SIZE;
 const FREE: usize = 42 * FRAME_SIZE;
 
 /// The programs and the secrets that a machine begins with.
-#[derive(Clone, Copy)]
+#[derive(Clone, Copy, PartialEq, Eq, Debug)]
 pub struct Image<'a> {
     pub supervisor: &'a [u16],
     pub secrets: &'a [u16],
@@ -27,7 +27,7 @@ pub struct Image<'a> {
 impl<'a> Image<'a> {
     /// The byte at an address.
     pub fn byte(self, address: usize) -> u8
-        ensures { result ≡ image_byte self.entry.supervisor.now self.entry.secrets.now self.entry.user.now address }
+        ensures { result ≡ image_byte self.entry address }
     {
         if address < SUPERVISOR {
             0
@@ -36,7 +36,7 @@ impl<'a> Image<'a> {
         } else if address < USER {
             word_byte(self.secrets, address - SECRETS)
         } else if address < FREE {
-            byte_or_zero(self.user, address - USER)
+            self.user.get(address - USER).copied().unwrap_or(0)
         } else {
             0
         }
@@ -44,10 +44,10 @@ impl<'a> Image<'a> {
 
     /// Fills a buffer with the bytes from an address on.
     pub fn fill(self, first: u16, buffer: &mut [u8])
-        ensures { buffer.new ≡ image_bytes self.entry.supervisor.now self.entry.secrets.now self.entry.user.now first (length buffer.old) }
+        ensures { buffer.new ≡ image_bytes self.entry first (length buffer.old) }
     {
-        for i in 0..buffer.len() {
-            buffer[i] = self.byte(first as usize + i);
+        for (i, byte) in buffer.iter_mut().enumerate() {
+            *byte = self.byte(first as usize + i);
         }
     }
 }
@@ -56,22 +56,6 @@ impl<'a> Image<'a> {
 pub fn word_byte(words: &[u16], offset: usize) -> u8
     ensures { result ≡ word_byte words.now offset }
 {
-    let word = word_or_zero(words, offset / 2);
-    if offset % 2 == 0 {
-        (word % 256) as u8
-    } else {
-        (word / 256) as u8
-    }
-}
-
-fn word_or_zero(words: &[u16], index: usize) -> u16
-    ensures { result ≡ slice_index words.now index }
-{
-    if index < words.len() { words[index] } else { 0 }
-}
-
-fn byte_or_zero(bytes: &[u8], index: usize) -> u8
-    ensures { result ≡ slice_index bytes.now index }
-{
-    if index < bytes.len() { bytes[index] } else { 0 }
+    let word = words.get(offset / 2).copied().unwrap_or(0);
+    word.to_le_bytes()[offset % 2]
 }

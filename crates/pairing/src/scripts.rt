@@ -7,6 +7,7 @@ use calls::Call;
 use monitor::commands::Command;
 
 /// The call that a command is, if it is one.
+// Not a `TryFrom`: all that there is to say of another command is that it is no call.
 pub fn call_of(command: Command<'_>) -> Option<Call>
     ensures { result ≡ call_said (said command.entry) }
 {

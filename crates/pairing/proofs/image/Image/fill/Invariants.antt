@@ -4,4 +4,4 @@ use Rattle.pairing.proofs.image.Image.fill.Given as goal
 
 -- what is passed is filled
 abbrev pub invariant-loop-i : goal.invariant-loop-i
-invariant-loop-i l = (k : ℕ) → k < l.i → get_or l.buffer k 0 ≡ image_byte l.self.supervisor.now l.self.secrets.now l.self.user.now (l.first + k)
+invariant-loop-i l = (k : ℕ) → k < l.i → get_or l.buffer k 0 ≡ image_byte l.self (l.first + k)

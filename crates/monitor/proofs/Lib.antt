@@ -1,3 +1,0 @@
-mod Blanks
-mod Digits
-mod Tails
