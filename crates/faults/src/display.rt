@@ -1,5 +1,5 @@
 //! How the place of a refused block is printed.
-ghost use Rattle.std.specs.Prelude.{Some, ◌++◌, codes, decimal};
+ghost use Rattle.std.specs.Prelude.{Some};
 ghost use Rattle.faults.specs.Texts.{misplaced_text, place_text};
 
 use crate::{Misplaced, PlaceFault};
