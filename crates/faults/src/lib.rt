@@ -2,6 +2,7 @@
 #![tactic(auto)]
 
 pub mod convert;
+pub mod display;
 
 ghost use Rattle.std.specs.Prelude.{◌≡◌};
 ghost use Rattle.faults.specs.Faults.{put_number, close_number, load_number};
@@ -54,11 +55,7 @@ impl PutFault {
     pub fn number(self) -> u8
         ensures { result ≡ put_number self }
     {
-        match self {
-            PutFault::BlockLength => 13,
-            PutFault::Place(_) => 14,
-            PutFault::SumTooLarge => 17,
-        }
+        LoadFault::from(self).number()
     }
 }
 
@@ -67,7 +64,7 @@ impl CloseFault {
     pub fn number(self) -> u8
         ensures { result ≡ close_number self }
     {
-        15
+        LoadFault::WrongSum.number()
     }
 }
 
@@ -76,6 +73,7 @@ impl LoadFault {
     pub fn number(self) -> u8
         ensures { result ≡ load_number self }
     {
+        // One variant carries its place, so the numbers cannot stand beside the variants.
         match self {
             LoadFault::NoMark => 10,
             LoadFault::CutShort => 11,

@@ -1,5 +1,5 @@
 -- The law of every load: the accepted blocks account for each byte.
-use Rattle.std.proofs.Common.{◌≡◌, ℕ, zero, suc, ◌+◌, ◌-◌, ◌<◌, Bool, true, false, cond, eqb, ltb, ◌⊎◌, List, [], ◌∷◌, length, Ok, Err, Result, sym, refl, ap, ◌∙◌, subst, subst₂, inl, inr, add-zero, arith}
+use Rattle.std.proofs.Common.{◌≡◌, ℕ, zero, suc, ◌+◌, ◌-◌, ◌<◌, Bool, true, false, cond, ltb, ◌⊎◌, List, [], ◌∷◌, length, Ok, Err, Result, sym, refl, ap, ◌∙◌, subst, subst₂, inl, inr, add-zero, arith}
 use Rattle.std.specs.List.{AllByRecursion}
 use Rattle.std.proofs.lemmas.Bool.{cases_lt}
 use Rattle.std.proofs.lemmas.Bool.Decides.{nat_tests}
@@ -10,37 +10,21 @@ use Rattle.records.specs.declared.fault.RecordFault.{RecordFault}
 use Rattle.records.specs.declared.fault.RecordFault.TheVariants.{TooLong}
 use Rattle.records.specs.Records.{Item, block, end, record_of, after}
 use Rattle.faults.specs.declared.CloseFault.{CloseFault}
-use Rattle.faults.specs.declared.PlaceFault.{PlaceFault}
 use Rattle.faults.specs.declared.PutFault.{PutFault}
-use Rattle.faults.specs.declared.PutFault.TheVariants as put
 use Rattle.loading.specs.declared.load.Loaded.{Loaded}
 use Rattle.loading.specs.declared.load.LoadRefusal.{LoadRefusal}
-use Rattle.loading.specs.Blocks.{overlaid, place_of, summed, put_of}
+use Rattle.loading.specs.Blocks.{overlaid, place_of, put_of}
 use Rattle.loading.specs.Closing.{close_of}
 use Rattle.loading.specs.Loads.{Turn, Final, put_by, turn_by, continued, finish_by, load_from, load_by, load_of}
 use Rattle.loading.specs.Laws.{Block, Covers, Uncovered, carries, LastCarries, Fits, overlaid_all, block_before, blocks_from, blocks_of, accepted, Accounted}
 use Rattle.loading.proofs.Places.{place_free}
 
 -- a block that a ticket takes fits, and adds its length to the sum
-summed_free : (sum : ℕ) (r : Result (Unit {0}) PlaceFault) {new : ℕ} → summed sum r ≡ Ok new → (Ok tt ≡ r) × (new ≡ sum)
-summed_free sum (Ok tt) e = (refl, cc)
-summed_free sum (Err f) e = let z : ◌≡◌ {A = ℕ} 0 1 = cc in absurd (omega arith)
-
-passed : (b : Bool) (e : PutFault) (r : Result ℕ PutFault) {v : ℕ} → cond b (Err e) r ≡ Ok v → r ≡ Ok v
-passed true e r h = let z : ◌≡◌ {A = ℕ} 0 1 = cc in absurd (omega arith)
-passed false e r h = h
-
 pub put_fits : (sum : ℕ) (marks : ℕ → Mark) (a : ℕ) (body : List ℕ) {new : ℕ} → put_of sum marks a body ≡ Ok new
     → Fits marks (record { address = a; body = body }) × (new ≡ sum + length body)
-put_fits sum marks a body h =
-    let last : Result ℕ PutFault = summed (sum + length body) (place_of marks a (length body)) in
-    let low : Result ℕ PutFault = cond (ltb 65535 (sum + length body)) (Err put.SumTooLarge) last in
-    let few : Result ℕ PutFault = cond (ltb 1024 (length body)) (Err put.BlockLength) low in
-    let r = summed_free (sum + length body) (place_of marks a (length body))
-    (passed (ltb 65535 (sum + length body)) put.SumTooLarge last
-    (passed (ltb 1024 (length body)) put.BlockLength low
-    (passed (eqb (length body) 0) put.BlockLength few h))) in
-    (place_free marks a (length body) r.0, r.1)
+put_fits sum marks a body {new = new} h =
+    let free : place_of marks a (length body) ≡ Ok tt = grind (arith, nat_tests) in
+    (place_free marks a (length body) (sym free), grind (arith, nat_tests))
 
 finish_counts : (x : Result ℕ CloseFault) (p k : ℕ) → blocks_of (finish_by x p k) ≡ k
 finish_counts (Ok s) p k = refl

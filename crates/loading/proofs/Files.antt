@@ -1,21 +1,19 @@
 -- A file made of blocks is loaded as those blocks.
-use Rattle.std.proofs.Common.{◌≡◌, ℕ, zero, suc, ◌+◌, ◌<◌, ◌≤◌, true, false, cond, eqb, ltb, List, [], ◌∷◌, length, drop, is_ok, Ok, Err, Result, sym, refl, ap, ◌∙◌, subst, add-zero, arith}
+use Rattle.std.proofs.Common.{◌≡◌, ℕ, zero, suc, ◌+◌, ◌<◌, ◌≤◌, true, false, List, [], ◌∷◌, length, drop, is_ok, Ok, Err, Result, sym, refl, ap, ◌∙◌, subst, add-zero, arith}
 use Rattle.std.specs.List.{AllByRecursion}
 use Rattle.std.proofs.lemmas.List.{length-append}
-use Rattle.std.proofs.lemmas.Bool.{le-ltb, eq-eqb, ne_eqb, cond-true, cond-false}
+use Rattle.std.proofs.lemmas.Bool.Decides.{nat_tests}
 use Rattle.memory.specs.declared.Mark.{Mark}
 use Rattle.records.specs.declared.fault.RecordFault.{RecordFault}
-use Rattle.records.specs.declared.fault.RecordFault.TheVariants.{TooLong}
-use Rattle.records.specs.Records.{Item, block, Reading, record_of, open_of}
+use Rattle.records.specs.Records.{Item, block, record_of}
+use Rattle.records.specs.Readings.{Reading, open_of}
 use Rattle.records.specs.Files.{end_bytes}
 use Rattle.records.proofs.Within.{record_within}
 use Rattle.records.proofs.ReadBack.{block_reads, block_next, end_reads}
-use Rattle.faults.specs.declared.PlaceFault.{PlaceFault}
 use Rattle.faults.specs.declared.PutFault.{PutFault}
-use Rattle.faults.specs.declared.PutFault.TheVariants as put
 use Rattle.loading.specs.declared.load.Loaded.{Loaded}
 use Rattle.loading.specs.declared.load.LoadRefusal.{LoadRefusal}
-use Rattle.loading.specs.Blocks.{overlaid, place_of, summed, put_of}
+use Rattle.loading.specs.Blocks.{overlaid, put_of}
 use Rattle.loading.specs.Closing.{close_of}
 use Rattle.loading.specs.Loads.{Turn, Final, final, put_by, turn_by, continued, finish_by, load_from, load_by, load_of}
 use Rattle.loading.specs.Laws.{Block, Fits, overlaid_all, Sized, total, records_before, file_of, Faithful}
@@ -25,15 +23,7 @@ use Rattle.loading.proofs.Accounts.{put_fits}
 -- a ticket takes each block that fits, as long as its sum can be kept
 put_takes : (s : ℕ) (marks : ℕ → Mark) (b : Block) → Sized b → s + length b.body ≤ 65535 → Fits marks b
     → put_of s marks b.address b.body ≡ Ok (s + length b.body)
-put_takes s marks b sized small fits =
-    let n : ℕ = length b.body in
-    let last : Result ℕ PutFault = summed (s + n) (place_of marks b.address n) in
-    let low : Result ℕ PutFault = cond (ltb 65535 (s + n)) (Err put.SumTooLarge) last in
-    let few : Result ℕ PutFault = cond (ltb 1024 n) (Err put.BlockLength) low in
-    cond-false (eqb n 0) (Err put.BlockLength) few (ne_eqb n 0 (λ z. omega arith))
-    ∙ (cond-false (ltb 1024 n) (Err put.BlockLength) low (le-ltb 1024 n sized.1)
-    ∙ (cond-false (ltb 65535 (s + n)) (Err put.SumTooLarge) last (le-ltb 65535 (s + n) small)
-    ∙ ap (λ (r : Result (Unit {0}) PlaceFault). summed (s + n) r) (place_plain marks b.address n fits.0 fits.1)))
+put_takes s marks b sized small fits = let free = place_plain marks b.address (length b.body) fits.0 fits.1 in grind (arith, nat_tests)
 
 -- what is said of a load that begins with `s` summed and `k` blocks written
 record Loads (marks : ℕ → Mark) (bytes : ℕ → ℕ) (s k : ℕ) (blocks : List Block) (x : Final) : Type 0 where
@@ -42,7 +32,7 @@ record Loads (marks : ℕ → Mark) (bytes : ℕ → ℕ) (s k : ℕ) (blocks : 
 
 load_end : (marks : ℕ → Mark) (bytes : ℕ → ℕ) (p s k : ℕ) → Loads marks bytes s k [] (final (finish_by (close_of s (s + 0)) p k) bytes)
 load_end marks bytes p s k =
-    let closed : close_of s (s + 0) ≡ Ok s = cond-true (eqb s (s + 0)) (Ok s) (Err (record {})) (eq-eqb s (s + 0) (sym (add-zero s))) in
+    let closed : close_of s (s + 0) ≡ Ok s = grind (arith, nat_tests) in
     let e : final (finish_by (close_of s (s + 0)) p k) bytes ≡ final (Ok (record { blocks = k + 0; sum = s + 0 })) bytes =
     ap (λ r. final (finish_by r p k) bytes) closed
     ∙ (ap (λ (n : ℕ). final (Ok (record { blocks = n; sum = s })) bytes) (sym (add-zero k))
@@ -78,9 +68,8 @@ module _ (marks : ℕ → Mark) (f : List ℕ) (short : length f ≤ 65535) wher
       record {
         takes = λ all.
             let q' : put_of s marks b.address b.body ≡ Ok (s + length b.body) = put_takes s marks b sized small all.0 in
-            let clash : Err e ≡ Ok (s + length b.body) = sym q ∙ q' in
-            let z : ◌≡◌ {A = ℕ} 0 1 = cc in absurd (omega arith);
-        fitting = λ ok. let no : false ≡ true = ok in let z : ◌≡◌ {A = ℕ} 0 1 = cc in absurd (omega arith);
+            cc;
+        fitting = λ ok. let no : false ≡ true = ok in cc;
       }
 
   load_blocks : (blocks : List Block) (n p s k : ℕ) (bytes : ℕ → ℕ) → drop p f ≡ records_before blocks (end_bytes (s + total blocks)) → AllByRecursion Sized blocks → s ≤ p
@@ -114,7 +103,7 @@ enough (b ∷ blocks) ending =
 load_file : (marks : ℕ → Mark) (bytes : ℕ → ℕ) (f : List ℕ) (blocks : List Block) → f ≡ file_of blocks → length f ≤ 65535 → AllByRecursion Sized blocks
     → Loads marks bytes 0 0 blocks (load_of marks bytes f)
 load_file marks bytes f blocks e short sized =
-    let opened : open_of f ≡ Ok (record { file = f; position = 0 }) = cond-false (ltb 65535 (length f)) (Err TooLong) (Ok (record { file = f; position = 0 })) (le-ltb 65535 (length f) short) in
+    let opened : open_of f ≡ Ok (record { file = f; position = 0 }) = grind (arith, nat_tests) in
     let sum : total blocks ≡ 0 + total blocks = omega arith in
     let many : length blocks ≤ length f = omega (arith, enough blocks (end_bytes (total blocks)), ap (λ (l : List ℕ). length l) e) in
     subst (λ (x : Result Reading RecordFault). Loads marks bytes 0 0 blocks (load_by marks bytes x)) (sym opened)

@@ -1,39 +1,38 @@
 -- What a load answers and leaves, record by record.
-use Rattle.std.specs.Prelude.{ℕ, zero, suc, ◌+◌, List, length, Ok, Err, Result}
+use Rattle.std.specs.Prelude.{ℕ, zero, suc, ◌+◌, List, length, Option, Some, None, Ok, Err, Result}
 use Rattle.memory.specs.declared.Mark.{Mark}
 use Rattle.records.specs.declared.fault.RecordFault.{RecordFault}
-use Rattle.records.specs.Records.{Item, block, end, Reading, record_of, size_of, open_of}
+use Rattle.records.specs.Records.{Item, block, end, record_of, size_of}
+use Rattle.records.specs.Readings.{Reading, open_of}
 use Rattle.faults.specs.declared.CloseFault.{CloseFault}
 use Rattle.faults.specs.declared.PutFault.{PutFault}
 use Rattle.faults.specs.declared.LoadFault.{LoadFault}
 use Rattle.faults.specs.declared.LoadFault.TheVariants as load
-use Rattle.loading.specs.declared.load.Step.{Step}
-use Rattle.loading.specs.declared.load.Step.TheVariants.{Put, End}
 use Rattle.loading.specs.declared.load.Loaded.{Loaded}
 use Rattle.loading.specs.declared.load.LoadRefusal.{LoadRefusal}
 use Rattle.faults.specs.Faults.{load_from_put, load_from_record, load_from_close}
 use Rattle.loading.specs.Blocks.{overlaid, put_of}
 use Rattle.loading.specs.Closing.{close_of}
 
--- What one record does: its answer, and the ticket's sum, the bytes and the position after it.
+-- What one record does: its answer, which is nothing for a block and the sum for an end record, and the ticket's sum, the bytes and the position after it.
 pub record Turn : Type 0 where
-  pub answer : Result Step LoadFault
+  pub answer : Result (Option ℕ) LoadFault
   pub sum : ℕ
   pub bytes : ℕ → ℕ
   pub position : ℕ
 
-abbrev pub turn : Result Step LoadFault → ℕ → (ℕ → ℕ) → ℕ → Turn
+abbrev pub turn : Result (Option ℕ) LoadFault → ℕ → (ℕ → ℕ) → ℕ → Turn
 turn answer sum bytes position = record { answer = answer; sum = sum; bytes = bytes; position = position }
 
 -- A block goes through the ticket: the load goes on, or the ticket's fault is the load's.
 abbrev pub put_by : (ℕ → ℕ) → ℕ → ℕ → ℕ → List ℕ → Result ℕ PutFault → Turn
-put_by bytes p sum a body (Ok new) = turn (Ok Put) new (overlaid bytes a body) (p + size_of (block a body))
+put_by bytes p sum a body (Ok new) = turn (Ok None) new (overlaid bytes a body) (p + size_of (block a body))
 put_by bytes p sum a body (Err fault) = turn (Err (load_from_put fault)) sum bytes (p + size_of (block a body))
 
 -- An end record stops the load, and so does a record that cannot be read.
 abbrev pub turn_by : (ℕ → Mark) → (ℕ → ℕ) → ℕ → ℕ → Result Item RecordFault → Turn
 turn_by marks bytes p sum (Err fault) = turn (Err (load_from_record fault)) sum bytes p
-turn_by marks bytes p sum (Ok (end said)) = turn (Ok (End said)) sum bytes (p + size_of (end said))
+turn_by marks bytes p sum (Ok (end said)) = turn (Ok (Some said)) sum bytes (p + size_of (end said))
 turn_by marks bytes p sum (Ok (block a body)) = put_by bytes p sum a body (put_of sum marks a body)
 
 abbrev pub turn_of : (ℕ → Mark) → (ℕ → ℕ) → List ℕ → ℕ → ℕ → Turn
@@ -57,10 +56,10 @@ finish_by (Ok sum) offset blocks = Ok (record { blocks = blocks; sum = sum })
 finish_by (Err fault) offset blocks = refusal (load_from_close fault) offset blocks
 
 -- After a block the load goes on; after any other answer it is over.
-abbrev pub continued_by : Result Step LoadFault → Turn → ℕ → ℕ → Final → Final
+abbrev pub continued_by : Result (Option ℕ) LoadFault → Turn → ℕ → ℕ → Final → Final
 continued_by (Err fault) done p blocks rest = final (refusal fault p blocks) done.bytes
-continued_by (Ok Put) done p blocks rest = rest
-continued_by (Ok (End said)) done p blocks rest = final (finish_by (close_of done.sum said) p blocks) done.bytes
+continued_by (Ok None) done p blocks rest = rest
+continued_by (Ok (Some said)) done p blocks rest = final (finish_by (close_of done.sum said) p blocks) done.bytes
 
 abbrev pub continued : Turn → ℕ → ℕ → Final → Final
 continued done p blocks rest = continued_by done.answer done p blocks rest

@@ -1,8 +1,7 @@
 //! Loading a whole file into a memory.
 ghost use Rattle.std.specs.Prelude.{◌≡◌, ◌+◌, true, false, length};
-ghost use Rattle.loading.specs.Closing.{close_of};
 ghost use Rattle.loading.specs.Laws.{Accounted, Faithful};
-ghost use Rattle.loading.specs.Loads.{turn, turn_of, final, finish_by, load_from, load_of};
+ghost use Rattle.loading.specs.Loads.{turn, turn_of, final, load_from, load_of};
 
 use crate::ticket::Ticket;
 use faults::LoadFault;
@@ -24,13 +23,6 @@ pub struct LoadRefusal {
     pub blocks: usize,
 }
 
-/// What a record was that has been taken: a block, which is now put, or the end with its sum.
-#[derive(Clone, Copy)]
-enum Step {
-    Put,
-    End(u16),
-}
-
 /// Loads `file` into `memory`, block by block. If it is refused, the blocks before the record at
 /// fault stay written.
 pub fn load<Mem: Memory>(memory: &mut Mem, file: &[u8]) -> Result<Loaded, LoadRefusal>
@@ -41,14 +33,12 @@ pub fn load<Mem: Memory>(memory: &mut Mem, file: &[u8]) -> Result<Loaded, LoadRe
     ensures accounted { Accounted (Mem.marks memory.old) (Mem.bytes memory.old) (Mem.bytes memory.new) file.now result }
     ensures faithful { Faithful (Mem.marks memory.old) (Mem.bytes memory.old) (Mem.bytes memory.new) file.now result }
 {
-    match Reader::open(file) {
-        Ok(mut reader) => load_records(memory, &mut reader),
-        Err(fault) => Err(LoadRefusal {
-            fault: LoadFault::from(fault),
-            offset: 0,
-            blocks: 0,
-        }),
-    }
+    let mut reader = Reader::open(file).map_err(|fault| LoadRefusal {
+        fault: LoadFault::from(fault),
+        offset: 0,
+        blocks: 0,
+    })?;
+    load_records(memory, &mut reader)
 }
 
 /// Loads the records of a file that is read from its start.
@@ -62,29 +52,33 @@ fn load_records<Mem: Memory>(memory: &mut Mem, reader: &mut Reader) -> Result<Lo
     let mut blocks = 0;
     'records: loop {
         let offset = reader.position();
+        let refused = |fault| LoadRefusal {
+            fault,
+            offset,
+            blocks,
+        };
         match take_record(memory, reader, &mut ticket) {
-            Ok(step) => match step {
-                Step::Put => blocks += 1,
-                Step::End(sum) => return finish(&mut ticket, sum, offset, blocks),
-            },
+            Ok(None) => blocks += 1,
+            Ok(Some(sum)) => {
+                return ticket
+                    .close(sum)
+                    .map(|sum| Loaded { blocks, sum })
+                    .map_err(|fault| refused(LoadFault::from(fault)));
+            }
             Err(fault) => {
                 ticket.abandon();
-                return Err(LoadRefusal {
-                    fault,
-                    offset,
-                    blocks,
-                });
+                return Err(refused(fault));
             }
         }
     }
 }
 
-/// Reads the next record and, if it is a block, puts it.
+/// Reads the next record: a block is put, and of the end record the sum is answered.
 fn take_record<Mem: Memory>(
     memory: &mut Mem,
     reader: &mut Reader,
     ticket: &mut Ticket,
-) -> Result<Step, LoadFault>
+) -> Result<Option<u16>, LoadFault>
     requires { ticket.old.spent ≡ false }
     ensures turn { turn result ticket.new.sum (Mem.bytes memory.new) reader.new.position ≡ turn_of (Mem.marks memory.old) (Mem.bytes memory.old) reader.old.file.now reader.old.position ticket.old.sum }
     ensures spent { ticket.new.spent ≡ false }
@@ -95,29 +89,8 @@ fn take_record<Mem: Memory>(
     match reader.next_record()? {
         Record::Block { address, body } => {
             ticket.put_block(memory, address, body)?;
-            Ok(Step::Put)
+            Ok(None)
         }
-        Record::End { sum } => Ok(Step::End(sum)),
-    }
-}
-
-/// Closes the ticket with the sum of the end record at `offset`.
-fn finish(
-    ticket: &mut Ticket,
-    sum: u16,
-    offset: usize,
-    blocks: usize,
-) -> Result<Loaded, LoadRefusal>
-    requires { ticket.old.spent ≡ false }
-    ensures answer { result ≡ finish_by (close_of ticket.old.sum sum) offset blocks }
-    ensures spent { ticket.new.spent ≡ true }
-{
-    match ticket.close(sum) {
-        Ok(sum) => Ok(Loaded { blocks, sum }),
-        Err(fault) => Err(LoadRefusal {
-            fault: LoadFault::from(fault),
-            offset,
-            blocks,
-        }),
+        Record::End { sum } => Ok(Some(sum)),
     }
 }

@@ -9,6 +9,8 @@ use faults::CloseFault;
 /// A load in progress: the sum of the lengths of its blocks, and whether it is over.
 pub struct Ticket {
     sum: u16,
+    // A ticket is plain numbers by a rule of the project, so the proof, and not a move, refuses its
+    // use after the end.
     spent: bool,
 }
 

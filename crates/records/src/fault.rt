@@ -2,15 +2,16 @@
 ghost use Rattle.std.specs.Prelude.{◌≡◌};
 ghost use Rattle.records.specs.Faults.{record_number};
 
-/// What is wrong with a load file, or with the record at the reader's position.
+/// What is wrong with a load file, or with the record at the reader's position. Each fault has
+/// the number by which the format knows it.
 #[derive(Clone, Copy, PartialEq, Eq, Debug)]
 pub enum RecordFault {
-    NoMark,
-    CutShort,
-    UnknownKind,
-    BlockLength,
-    TrailingBytes,
-    TooLong,
+    NoMark = 10,
+    CutShort = 11,
+    UnknownKind = 12,
+    BlockLength = 13,
+    TrailingBytes = 16,
+    TooLong = 18,
 }
 
 impl RecordFault {
@@ -18,13 +19,6 @@ impl RecordFault {
     pub fn number(self) -> u8
         ensures { result ≡ record_number self }
     {
-        match self {
-            RecordFault::NoMark => 10,
-            RecordFault::CutShort => 11,
-            RecordFault::UnknownKind => 12,
-            RecordFault::BlockLength => 13,
-            RecordFault::TrailingBytes => 16,
-            RecordFault::TooLong => 18,
-        }
+        self as u8
     }
 }

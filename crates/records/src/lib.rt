@@ -3,4 +3,5 @@
 #![tactic(auto)]
 
 pub mod fault;
+mod kind;
 pub mod reader;

@@ -1,8 +1,9 @@
 //! A load file, how far it has been read, and the records that it gives.
-ghost use Rattle.std.specs.Prelude.{◌≡◌, ◌+◌, ◌*◌};
-ghost use Rattle.records.specs.Records.{seen, block_of, end_of, record_of, after, opened, open_of};
+ghost use Rattle.std.specs.Prelude.{◌≡◌, ◌≤◌, length};
+ghost use Rattle.records.specs.Records.{seen, item_of, block_in, end_in, record_in, record_of, size_of, after};
 
 use crate::fault::RecordFault;
+use crate::kind::Kind;
 
 /// How long a load file may be.
 pub const LONGEST_FILE: usize = 65535;
@@ -15,19 +16,14 @@ const FIRST_MARK: u8 = 0x53;
 
 const SECOND_MARK: u8 = 0x33;
 
-const START_SIZE: usize = 3;
-
-// The kinds of records, and how many bytes they have but for a block's body.
-const BLOCK_KIND: u8 = 1;
-
+/// How many bytes a block has but for its body.
 const BLOCK_HEAD: usize = 7;
 
-const END_KIND: u8 = 2;
-
+/// How many bytes an end record has.
 const END_SIZE: usize = 5;
 
 /// One record of a load file. The body of a block is borrowed from the file and not copied.
-#[derive(Clone, Copy)]
+#[derive(Clone, Copy, PartialEq, Eq, Debug)]
 pub enum Record<'a> {
     Block { address: u16, body: &'a [u8] },
     End { sum: u16 },
@@ -38,9 +34,24 @@ pub enum Record<'a> {
 pub struct Reader<'a> {
     file: &'a [u8],
     position: usize,
+    ghost within: { position ≤ length file.now },
+}
+
+impl Record<'_> {
+    /// How many bytes of the file the record takes.
+    fn size(&self) -> usize
+        ensures { result ≡ size_of (item_of self.now) }
+    {
+        match self {
+            Record::Block { address: _, body } => BLOCK_HEAD + body.len(),
+            Record::End { sum: _ } => END_SIZE,
+        }
+    }
 }
 
 impl<'a> Reader<'a> {
+    ghost use Rattle.records.specs.Readings.{opened, open_of};
+
     /// A reader at the start of `file`, unless the file is too long.
     pub fn open(file: &'a [u8]) -> Result<Reader<'a>, RecordFault>
         ensures { opened result ≡ open_of file.now }
@@ -64,71 +75,52 @@ impl<'a> Reader<'a> {
         ensures position { self.new.position ≡ after self.old.position (seen result) }
         ensures file { self.new.file.now ≡ self.old.file.now }
     {
-        let record = record_at(self.file, self.position)?;
-        match record {
-            Record::Block { address: _, body } => self.position += BLOCK_HEAD + body.len(),
-            Record::End { sum: _ } => self.position += END_SIZE,
-        }
+        let Reader { file, position } = self;
+        let record = first_record(&file[*position..])?;
+        *position += record.size();
         Ok(record)
     }
 }
 
-/// The 16-bit number with this low and high byte.
-fn word(low: u8, high: u8) -> u16
-    ensures { result ≡ low + high * 256 }
+/// The record that `rest` begins with.
+fn first_record(rest: &[u8]) -> Result<Record<'_>, RecordFault>
+    ensures { seen result ≡ record_in rest.now }
 {
-    u16::from_le_bytes([low, high])
+    match rest {
+        [FIRST_MARK, SECOND_MARK, kind, content @ ..] => match Kind::try_from(*kind)? {
+            Kind::Block => block(content),
+            Kind::End => end(content),
+        },
+        [_, _, _, ..] => Err(RecordFault::NoMark),
+        _ => Err(RecordFault::CutShort),
+    }
 }
 
-/// The block record at `at`.
-fn block_at<'a>(file: &'a [u8], at: usize) -> Result<Record<'a>, RecordFault>
-    ensures { seen result ≡ block_of file.now at }
+/// The block that follows its mark and kind.
+fn block(content: &[u8]) -> Result<Record<'_>, RecordFault>
+    ensures { seen result ≡ block_in content.now }
 {
-    let left = file.len().saturating_sub(at);
-    if left < BLOCK_HEAD {
+    let [address_low, address_high, count_low, count_high, rest @ ..] = content else {
         return Err(RecordFault::CutShort);
-    }
-    let address = word(file[at + 3], file[at + 4]);
-    let count = word(file[at + 5], file[at + 6]) as usize;
+    };
+    let address = u16::from_le_bytes([*address_low, *address_high]);
+    let count = u16::from_le_bytes([*count_low, *count_high]) as usize;
     if count == 0 || count > LONGEST_BODY {
         return Err(RecordFault::BlockLength);
     }
-    if left - BLOCK_HEAD < count {
-        return Err(RecordFault::CutShort);
-    }
-    let start = at + BLOCK_HEAD;
-    let body = &file[start..start + count];
+    let body = rest.get(..count).ok_or(RecordFault::CutShort)?;
     Ok(Record::Block { address, body })
 }
 
-/// The end record at `at`.
-fn end_at<'a>(file: &'a [u8], at: usize) -> Result<Record<'a>, RecordFault>
-    ensures { seen result ≡ end_of file.now at }
+/// The end record that follows its mark and kind, with nothing after it.
+fn end(content: &[u8]) -> Result<Record<'_>, RecordFault>
+    ensures { seen result ≡ end_in content.now }
 {
-    let left = file.len().saturating_sub(at);
-    if left < END_SIZE {
-        return Err(RecordFault::CutShort);
-    }
-    if left > END_SIZE {
-        return Err(RecordFault::TrailingBytes);
-    }
-    let sum = word(file[at + 3], file[at + 4]);
-    Ok(Record::End { sum })
-}
-
-/// The record at `at`.
-fn record_at<'a>(file: &'a [u8], at: usize) -> Result<Record<'a>, RecordFault>
-    ensures { seen result ≡ record_of file.now at }
-{
-    if file.len().saturating_sub(at) < START_SIZE {
-        return Err(RecordFault::CutShort);
-    }
-    if file[at] != FIRST_MARK || file[at + 1] != SECOND_MARK {
-        return Err(RecordFault::NoMark);
-    }
-    match file[at + 2] {
-        BLOCK_KIND => block_at(file, at),
-        END_KIND => end_at(file, at),
-        _ => Err(RecordFault::UnknownKind),
+    match content {
+        [low, high] => Ok(Record::End {
+            sum: u16::from_le_bytes([*low, *high]),
+        }),
+        [_, _, ..] => Err(RecordFault::TrailingBytes),
+        _ => Err(RecordFault::CutShort),
     }
 }

@@ -5,14 +5,11 @@ ghost use Rattle.loading.specs.Blocks.{placed, place_of, AllPlain, overlaid, put
 
 use crate::ticket::Ticket;
 use faults::{Misplaced, PlaceFault, PutFault};
-use memory::{FRAME_SIZE, Mark, Memory, MemoryFault};
+use memory::{FRAME_SIZE, Memory};
 use records::reader::LONGEST_BODY;
 
 /// How many physical addresses there are.
 const ADDRESSES: usize = 65536;
-
-/// The largest sum that a ticket keeps.
-const LARGEST_SUM: usize = 65535;
 
 impl Ticket {
     /// Writes `body` from `address` on, whole or not at all, and answers the ticket's new sum.
@@ -34,14 +31,14 @@ impl Ticket {
         if count == 0 || count > LONGEST_BODY {
             return Err(PutFault::BlockLength);
         }
-        let sum = self.sum as usize + count;
-        if sum > LARGEST_SUM {
-            return Err(PutFault::SumTooLarge);
-        }
+        let sum = self
+            .sum
+            .checked_add(count as u16)
+            .ok_or(PutFault::SumTooLarge)?;
         check_place(memory, address, count)?;
         write_body(memory, address, body);
-        self.sum = sum as u16;
-        Ok(self.sum)
+        self.sum = sum;
+        Ok(sum)
     }
 }
 
@@ -49,19 +46,15 @@ impl Ticket {
 fn check_frame<Mem: Memory>(memory: &Mem, address: u16) -> Result<(), PlaceFault>
     ensures { result ≡ placed address (write_answer (Mem.marks memory.now) address) }
 {
-    let fault = match memory.mark(address) {
-        Mark::Plain => return Ok(()),
-        Mark::Fixed => MemoryFault::Fixed,
-        Mark::Absent => MemoryFault::Absent,
-    };
-    Err(PlaceFault {
+    memory.mark(address).writable().map_err(|fault| PlaceFault {
         fault: Misplaced::from(fault),
-        address: address as u32,
+        address: u32::from(address),
     })
 }
 
 /// Whether `count` bytes fit from `address` on. So few lie in one frame or in two, and the first
 /// byte of each frame decides.
+#[tactic(auto, using(crate::proofs::Places::by_frames))]
 fn check_place<Mem: Memory>(memory: &Mem, address: u16, count: usize) -> Result<(), PlaceFault>
     requires some { 0 < count }
     requires few { count ≤ 1024 }
@@ -91,7 +84,7 @@ fn write_body<Mem: Memory>(memory: &mut Mem, address: u16, body: &[u8])
     ensures marks { Mem.marks memory.new ≡ Mem.marks memory.old }
     ensures rest { Mem.rest memory.new ≡ Mem.rest memory.old }
 {
-    'bytes: for i in 0..body.len() {
-        let _ = memory.write(address + i as u16, body[i]);
+    'bytes: for (i, byte) in body.iter().enumerate() {
+        let _ = memory.write(address + i as u16, *byte);
     }
 }
