@@ -8,18 +8,14 @@ ghost use Rattle.access.specs.Accesses.{fetched, loaded, store_answer, stored, w
 ghost use Rattle.access.specs.Opening.{Confined};
 
 use memory::Memory;
-use paging::PageTable;
-use translation::address::{Access, Width, data_address, fetch_address};
+use translation::address::{Access, AddressSpace, Width};
 use translation::event::Event;
 
 fn read_byte<Mem: Memory>(memory: &Mem, at: u16) -> u8
     requires { mark_at (Mem.marks memory.now) at ≢ Absent }
     ensures { result ≡ Mem.bytes memory.now at }
 {
-    match memory.read(at) {
-        Ok(byte) => byte,
-        Err(_) => unreachable(),
-    }
+    memory.read(at).unwrap()
 }
 
 /// The word at an even address, low byte first.
@@ -28,7 +24,7 @@ fn read_word<Mem: Memory>(memory: &Mem, at: u16) -> u16
     requires there { mark_at (Mem.marks memory.now) at ≢ Absent }
     ensures { result ≡ word_at (Mem.bytes memory.now) at }
 {
-    read_byte(memory, at) as u16 + 256 * read_byte(memory, at + 1) as u16
+    u16::from_le_bytes([read_byte(memory, at), read_byte(memory, at + 1)])
 }
 
 fn write_byte<Mem: Memory>(memory: &mut Mem, at: u16, byte: u8)
@@ -37,7 +33,7 @@ fn write_byte<Mem: Memory>(memory: &mut Mem, at: u16, byte: u8)
     ensures marks { Mem.marks memory.new ≡ Mem.marks memory.old }
     ensures rest { Mem.rest memory.new ≡ Mem.rest memory.old }
 {
-    let _ = memory.write(at, byte);
+    memory.write(at, byte).unwrap();
 }
 
 /// Writes a word at an even address, low byte first.
@@ -48,34 +44,29 @@ fn write_word<Mem: Memory>(memory: &mut Mem, at: u16, word: u16)
     ensures marks { Mem.marks memory.new ≡ Mem.marks memory.old }
     ensures rest { Mem.rest memory.new ≡ Mem.rest memory.old }
 {
-    write_byte(memory, at, (word % 256) as u8);
-    write_byte(memory, at + 1, (word / 256) as u8);
+    let [low, high] = word.to_le_bytes();
+    write_byte(memory, at, low);
+    write_byte(memory, at + 1, high);
 }
 
 /// The instruction word at `address`, or the first check that its fetch fails.
-pub fn fetch<Mem: Memory>(
-    user: bool,
-    table: &PageTable,
-    memory: &Mem,
-    address: u16,
-) -> Result<u16, Event>
-    ensures { result ≡ fetched user table.now.entries (Mem.marks memory.now) (Mem.bytes memory.now) address }
+pub fn fetch<Mem: Memory>(space: AddressSpace, memory: &Mem, address: u16) -> Result<u16, Event>
+    ensures { result ≡ fetched space.entry.user space.entry.table.now.entries (Mem.marks memory.now) (Mem.bytes memory.now) address }
 {
-    let at = fetch_address(user, table, memory, address)?;
+    let at = space.physical_address(memory, address, Access::Fetch, Width::Word)?;
     Ok(read_word(memory, at))
 }
 
 /// The word or the byte at `address`, or the first check that the access fails.
 pub fn load<Mem: Memory>(
-    user: bool,
-    table: &PageTable,
+    space: AddressSpace,
     memory: &Mem,
     address: u16,
     width: Width,
 ) -> Result<u16, Event>
-    ensures { result ≡ loaded user table.now.entries (Mem.marks memory.now) (Mem.bytes memory.now) width address }
+    ensures { result ≡ loaded space.entry.user space.entry.table.now.entries (Mem.marks memory.now) (Mem.bytes memory.now) width address }
 {
-    let at = data_address(user, table, memory, address, Access::Load, width)?;
+    let at = space.physical_address(memory, address, Access::Load, width)?;
     match width {
         Width::Byte => Ok(read_byte(memory, at) as u16),
         Width::Word => Ok(read_word(memory, at)),
@@ -85,36 +76,19 @@ pub fn load<Mem: Memory>(
 /// Stores `value`, or its low byte, at `address`; if a check fails, answers the first one and
 /// changes nothing.
 pub fn store<Mem: Memory>(
-    user: bool,
-    table: &PageTable,
+    space: AddressSpace,
     memory: &mut Mem,
     address: u16,
     width: Width,
     value: u16,
 ) -> Result<(), Event>
-    ensures answer { result ≡ store_answer user table.now.entries (Mem.marks memory.old) width address }
-    ensures bytes { Mem.bytes memory.new ≡ stored user table.now.entries (Mem.marks memory.old) (Mem.bytes memory.old) width address value }
+    ensures answer { result ≡ store_answer space.entry.user space.entry.table.now.entries (Mem.marks memory.old) width address }
+    ensures bytes { Mem.bytes memory.new ≡ stored space.entry.user space.entry.table.now.entries (Mem.marks memory.old) (Mem.bytes memory.old) width address value }
     ensures marks { Mem.marks memory.new ≡ Mem.marks memory.old }
     ensures rest { Mem.rest memory.new ≡ Mem.rest memory.old }
-    ensures confined { Confined user table.now.entries (Mem.marks memory.old) address (Mem.bytes memory.old) (Mem.bytes memory.new) }
+    ensures confined { Confined space.entry.user space.entry.table.now.entries (Mem.marks memory.old) address (Mem.bytes memory.old) (Mem.bytes memory.new) }
 {
-    store_value(user, table, memory, address, width, value)
-}
-
-fn store_value<Mem: Memory>(
-    user: bool,
-    table: &PageTable,
-    memory: &mut Mem,
-    address: u16,
-    width: Width,
-    value: u16,
-) -> Result<(), Event>
-    ensures answer { result ≡ store_answer user table.now.entries (Mem.marks memory.old) width address }
-    ensures bytes { Mem.bytes memory.new ≡ stored user table.now.entries (Mem.marks memory.old) (Mem.bytes memory.old) width address value }
-    ensures marks { Mem.marks memory.new ≡ Mem.marks memory.old }
-    ensures rest { Mem.rest memory.new ≡ Mem.rest memory.old }
-{
-    let at = data_address(user, table, memory, address, Access::Store, width)?;
+    let at = space.physical_address(memory, address, Access::Store, width)?;
     match width {
         Width::Byte => write_byte(memory, at, (value % 256) as u8),
         Width::Word => write_word(memory, at, value),

@@ -1,5 +1,5 @@
 -- What an instruction does to a machine and its memory, once PC stands at the instruction after it.
-use Rattle.std.specs.Prelude.{ℕ, ◌%◌, Bool, true, false, not, Ok, Err, Result, ◌==◌}
+use Rattle.std.specs.Prelude.{ℕ, ℤ, ◌%◌, Bool, true, false, not, Ok, Err, Result, ◌==◌}
 use Rattle.arithmetic.specs.Words.{byte_extended, signed_added, words_added}
 use Rattle.instruction.specs.declared.Instruction.{Instruction}
 use Rattle.instruction.specs.declared.Instruction.TheVariants as instruction
@@ -40,6 +40,11 @@ abbrev pub extended : Width → ℕ → ℕ
 extended Byte v = byte_extended (v % 256)
 extended Word v = v
 
+-- The address n from x, in words for a word.
+abbrev pub offset_by : Width → ℕ → ℤ → ℕ
+offset_by Byte x n = signed_added x n
+offset_by Word x n = words_added x n
+
 -- LD and LDB: Rd takes what lies at the address; a failed check is the event, with the address as its detail.
 abbrev pub loaded_by : Result ℕ Event → Register → Width → ℕ → World → Execution
 loaded_by (Ok v) d width address w = ran (register_set d (extended width v) w.state) w
@@ -66,7 +71,7 @@ abbrev pub privileged_by : Bool → Privileged → World → Execution
 privileged_by true p w = raised event.Privileged 0 w
 privileged_by false p w = outcome (with_state (controlled p w.state) w) (Ok (progress_of p))
 
--- The address of a load or a store is Ra + n, in words for a word. A jump is taken if Rb is zero, or if it is not.
+-- The address of a load or a store is n from Ra. A jump is taken if Rb is zero, or if it is not.
 abbrev pub executed : Instruction → World → Execution
 executed (instruction.Operate o d a b) w = ran (operated o d a b w.state) w
 executed (instruction.Complement d a) w = ran (complemented d a w.state) w
@@ -78,10 +83,10 @@ executed (instruction.JumpIfNotZero b a) w =
 executed (instruction.Jump a) w = ran (jumped_if true (register_at a w.state.registers) w.state) w
 executed (instruction.JumpAndLink b a) w = ran (linked b a w.state) w
 executed (instruction.CallSystem a) w = raised event.SystemCall (register_at a w.state.registers) w
-executed (instruction.LoadWord d a n) w = loaded_into d Word (words_added (register_at a w.state.registers) n) w
-executed (instruction.LoadByte d a n) w = loaded_into d Byte (signed_added (register_at a w.state.registers) n) w
-executed (instruction.StoreWord b a n) w = stored_from b Word (words_added (register_at a w.state.registers) n) w
-executed (instruction.StoreByte b a n) w = stored_from b Byte (signed_added (register_at a w.state.registers) n) w
+executed (instruction.LoadWord d a n) w = loaded_into d Word (offset_by Word (register_at a w.state.registers) n) w
+executed (instruction.LoadByte d a n) w = loaded_into d Byte (offset_by Byte (register_at a w.state.registers) n) w
+executed (instruction.StoreWord b a n) w = stored_from b Word (offset_by Word (register_at a w.state.registers) n) w
+executed (instruction.StoreByte b a n) w = stored_from b Byte (offset_by Byte (register_at a w.state.registers) n) w
 executed (instruction.MoveImmediate d n) w = ran (moved_in d n w.state) w
 executed (instruction.MoveHigh d n) w = ran (byte_raised d n w.state) w
 executed (instruction.BranchIfZero b n) w = ran (branched_if (register_at b w.state.registers == 0) n w.state) w

@@ -5,10 +5,9 @@ mod transfers;
 
 ghost use Rattle.std.specs.Prelude.{◌≡◌};
 ghost use Rattle.execution.specs.Worlds.{outcome, world};
-ghost use Rattle.execution.specs.Execution.{executed};
+ghost use Rattle.execution.specs.Execution.{executed, raising};
 
-use crate::transfers::{load_into, store_from};
-use arithmetic::{add_signed, add_words};
+use crate::transfers::{load, store};
 use instruction::Instruction;
 use memory::Memory;
 use state::State;
@@ -17,10 +16,16 @@ use translation::address::Width;
 use translation::event::Event;
 
 /// An event that an instruction raises, with its detail.
-#[derive(Clone, Copy)]
+#[derive(Clone, Copy, PartialEq, Eq, Debug)]
 pub struct Raised {
     pub event: Event,
     pub detail: u16,
+}
+
+fn raise(event: Event, detail: u16) -> Result<Progress, Raised>
+    ensures { result ≡ raising event detail }
+{
+    Err(Raised { event, detail })
 }
 
 /// Does what an instruction says. One that raises an event leaves state and memory alone.
@@ -52,34 +57,12 @@ pub fn execute<Mem: Memory>(
         Instruction::BranchIfNotZero { b, n } => state.branch_if(state.register(b) != 0, n),
         Instruction::Input { d, port } => state.input(d, port),
         Instruction::Output { b, port } => state.output(b, port),
-        Instruction::CallSystem { a } => {
-            return Err(Raised {
-                event: Event::SystemCall,
-                detail: state.register(a),
-            });
-        }
-        Instruction::LoadWord { d, a, n } => {
-            let address = add_words(state.register(a), n);
-            return load_into(state, memory, d, address, Width::Word);
-        }
-        Instruction::LoadByte { d, a, n } => {
-            let address = add_signed(state.register(a), n);
-            return load_into(state, memory, d, address, Width::Byte);
-        }
-        Instruction::StoreWord { b, a, n } => {
-            let address = add_words(state.register(a), n);
-            return store_from(state, memory, b, address, Width::Word);
-        }
-        Instruction::StoreByte { b, a, n } => {
-            let address = add_signed(state.register(a), n);
-            return store_from(state, memory, b, address, Width::Byte);
-        }
-        Instruction::Privileged(_) if state.system.is_user() => {
-            return Err(Raised {
-                event: Event::Privileged,
-                detail: 0,
-            });
-        }
+        Instruction::CallSystem { a } => return raise(Event::SystemCall, state.register(a)),
+        Instruction::LoadWord { d, a, n } => return load(state, memory, Width::Word, d, a, n),
+        Instruction::LoadByte { d, a, n } => return load(state, memory, Width::Byte, d, a, n),
+        Instruction::StoreWord { b, a, n } => return store(state, memory, Width::Word, b, a, n),
+        Instruction::StoreByte { b, a, n } => return store(state, memory, Width::Byte, b, a, n),
+        Instruction::Privileged(_) if state.system.is_user() => return raise(Event::Privileged, 0),
         Instruction::Privileged(ref privileged) => return Ok(state.control(privileged)),
     }
     Ok(Progress::Ran)

@@ -1,16 +1,26 @@
 //! Loads into a register and stores from one.
 ghost use Rattle.std.specs.Prelude.{◌≡◌};
+ghost use Rattle.state.specs.States.{register_at};
 ghost use Rattle.execution.specs.Worlds.{outcome, world};
-ghost use Rattle.execution.specs.Execution.{extended, loaded_into, stored_from};
+ghost use Rattle.execution.specs.Execution.{extended, loaded_into, offset_by, stored_from};
 
 use crate::Raised;
-use access::{load, store};
-use arithmetic::extend_byte;
+use arithmetic::{add_signed, add_words, extend_byte};
 use instruction::Register;
 use memory::Memory;
 use state::State;
 use state::privileged::Progress;
-use translation::address::Width;
+use translation::address::{AddressSpace, Width};
+
+/// The address that lies `n` bytes or `n` words from `x`.
+fn offset_by(width: Width, x: u16, n: i8) -> u16
+    ensures { result ≡ offset_by width x n }
+{
+    match width {
+        Width::Byte => add_signed(x, n),
+        Width::Word => add_words(x, n),
+    }
+}
 
 /// What a register takes of a value that was loaded: a byte extends its sign.
 fn extend_loaded(width: Width, loaded: u16) -> u16
@@ -23,57 +33,49 @@ fn extend_loaded(width: Width, loaded: u16) -> u16
 }
 
 /// LD and LDB.
-pub(crate) fn load_into<Mem: Memory>(
+pub(crate) fn load<Mem: Memory>(
     state: &mut State,
     memory: &Mem,
-    d: Register,
-    address: u16,
     width: Width,
+    d: Register,
+    a: Register,
+    n: i8,
 ) -> Result<Progress, Raised>
-    ensures { outcome (world state.new (Mem.marks memory.now) (Mem.bytes memory.now)) result ≡ loaded_into d width address (world state.old (Mem.marks memory.now) (Mem.bytes memory.now)) }
+    ensures { outcome (world state.new (Mem.marks memory.now) (Mem.bytes memory.now)) result ≡ loaded_into d width (offset_by width (register_at a state.old.registers) n) (world state.old (Mem.marks memory.now) (Mem.bytes memory.now)) }
 {
-    match load(
-        state.system.is_user(),
-        &state.tables.data,
-        memory,
-        address,
-        width,
-    ) {
-        Ok(loaded) => {
-            state.set_register(d, extend_loaded(width, loaded));
-            Ok(Progress::Ran)
-        }
-        Err(event) => Err(Raised {
-            event,
-            detail: address,
-        }),
-    }
+    let address = offset_by(width, state.register(a), n);
+    let space = AddressSpace {
+        user: state.system.is_user(),
+        table: &state.tables.data,
+    };
+    let loaded = access::load(space, memory, address, width).map_err(|event| Raised {
+        event,
+        detail: address,
+    })?;
+    state.set_register(d, extend_loaded(width, loaded));
+    Ok(Progress::Ran)
 }
 
 /// ST and STB.
-pub(crate) fn store_from<Mem: Memory>(
+pub(crate) fn store<Mem: Memory>(
     state: &State,
     memory: &mut Mem,
-    b: Register,
-    address: u16,
     width: Width,
+    b: Register,
+    a: Register,
+    n: i8,
 ) -> Result<Progress, Raised>
-    ensures outcome { outcome (world state.now (Mem.marks memory.new) (Mem.bytes memory.new)) result ≡ stored_from b width address (world state.now (Mem.marks memory.old) (Mem.bytes memory.old)) }
+    ensures outcome { outcome (world state.now (Mem.marks memory.new) (Mem.bytes memory.new)) result ≡ stored_from b width (offset_by width (register_at a state.now.registers) n) (world state.now (Mem.marks memory.old) (Mem.bytes memory.old)) }
     ensures rest { Mem.rest memory.new ≡ Mem.rest memory.old }
 {
-    let value = state.register(b);
-    match store(
-        state.system.is_user(),
-        &state.tables.data,
-        memory,
-        address,
-        width,
-        value,
-    ) {
-        Ok(()) => Ok(Progress::Ran),
-        Err(event) => Err(Raised {
-            event,
-            detail: address,
-        }),
-    }
+    let address = offset_by(width, state.register(a), n);
+    let space = AddressSpace {
+        user: state.system.is_user(),
+        table: &state.tables.data,
+    };
+    access::store(space, memory, address, width, state.register(b)).map_err(|event| Raised {
+        event,
+        detail: address,
+    })?;
+    Ok(Progress::Ran)
 }

@@ -18,7 +18,7 @@ use Rattle.translation.specs.declared.event.Event.{Event}
 use Rattle.translation.specs.declared.event.Event.TheVariants as event
 use Rattle.paging.specs.declared.PageEntry.{PageEntry}
 use Rattle.access.specs.Accesses.{fetched, loaded, store_answer_at, stored_at, value_put}
-use Rattle.translation.specs.Addresses.{data_address}
+use Rattle.translation.specs.Addresses.{physical_address}
 use Rattle.access.proofs.Confining.{confined}
 use Rattle.answers.specs.declared.Refusal.{Refusal}
 use Rattle.answers.specs.declared.StepAnswer.{StepAnswer}
@@ -125,7 +125,7 @@ store_lawful : (b : Register) (width : Width) (address : ℕ) (w : World) → La
 store_lawful b width address w =
     let user = is_user w.state.system.status in
     let entries = w.state.tables.«data».entries in
-    let r = data_address user entries w.marks Store width address in
+    let r = physical_address user entries w.marks Store width address in
     let v = register_at b w.state.registers in
     let kept = stored_memory (store_answer_at r) address (stored_from b width address w).after in
     let law : AtMostTwo user entries w.marks w.bytes (stored_at r width w.bytes v) =

@@ -43,11 +43,13 @@ fetched_by (Err e) address w = entering e address w
 abbrev pub advanced : World → World
 advanced w = with_state (with_pc ((w.state.pc + 2) % 65536) w.state) w
 
+abbrev pub tried : World → Outcome StepAnswer
+tried w =
+    fetched_by (fetched (is_user w.state.system.status) w.state.tables.instruction.entries w.marks w.bytes w.state.pc) w.state.pc (advanced w)
+
 -- An interrupt comes before everything else; then PC itself is saved.
 abbrev pub step_of : World → Outcome StepAnswer
-step_of w =
-    cond (is_interrupted w.state) (entering event.Interrupt 0 w)
-    (fetched_by (fetched (is_user w.state.system.status) w.state.tables.instruction.entries w.marks w.bytes w.state.pc) w.state.pc (advanced w))
+step_of w = cond (is_interrupted w.state) (entering event.Interrupt 0 w) (tried w)
 
 -- A halted machine makes no step.
 abbrev pub answered : {T : Type 0} → Outcome T → Outcome (Result T Refusal)

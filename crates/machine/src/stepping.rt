@@ -1,17 +1,17 @@
 //! One step: an interrupt first, then the fetch, what the word says, and its execution.
 ghost use Rattle.std.specs.Prelude.{◌≡◌};
 ghost use Rattle.execution.specs.Worlds.{outcome, world};
-ghost use Rattle.machine.specs.Steps.{performed, step_of};
-ghost use Rattle.instruction.specs.Decode.{decode_of};
+ghost use Rattle.machine.specs.Steps.{concluded, step_of, tried};
 ghost use Rattle.state.specs.Entries.{entered};
 
 use access::fetch;
 use answers::StepAnswer;
-use execution::execute;
+use execution::{Raised, execute};
 use instruction::decode;
 use memory::Memory;
 use state::State;
 use state::privileged::Progress;
+use translation::address::AddressSpace;
 use translation::event::Event;
 
 /// How many bytes an instruction has.
@@ -26,19 +26,27 @@ fn enter(state: &mut State, event: Event, detail: u16) -> StepAnswer
     StepAnswer::Entered(event)
 }
 
-/// Does what a word says, once PC has gone past it.
-fn perform<Mem: Memory>(state: &mut State, memory: &mut Mem, word: u16) -> StepAnswer
-    ensures outcome { outcome (world state.new (Mem.marks memory.new) (Mem.bytes memory.new)) result ≡ performed (decode_of word) (world state.old (Mem.marks memory.old) (Mem.bytes memory.old)) }
+/// Fetches an instruction and does what it says, or raises the event of the first of these that
+/// fails.
+fn attempt<Mem: Memory>(state: &mut State, memory: &mut Mem) -> Result<Progress, Raised>
+    ensures outcome { concluded result (world state.new (Mem.marks memory.new) (Mem.bytes memory.new)) ≡ tried (world state.old (Mem.marks memory.old) (Mem.bytes memory.old)) }
     ensures rest { Mem.rest memory.new ≡ Mem.rest memory.old }
 {
-    match &decode(word) {
-        None => enter(state, Event::IllegalInstruction, 0),
-        Some(instruction) => match execute(state, memory, instruction) {
-            Ok(Progress::Ran) => StepAnswer::Ran,
-            Ok(Progress::Halted) => StepAnswer::Halted,
-            Err(raised) => enter(state, raised.event, raised.detail),
-        },
-    }
+    let address = state.pc;
+    state.pc = address.wrapping_add(INSTRUCTION_SIZE);
+    let space = AddressSpace {
+        user: state.system.is_user(),
+        table: &state.tables.instruction,
+    };
+    let word = fetch(space, memory, address).map_err(|event| Raised {
+        event,
+        detail: address,
+    })?;
+    let instruction = decode(word).ok_or(Raised {
+        event: Event::IllegalInstruction,
+        detail: 0,
+    })?;
+    execute(state, memory, &instruction)
 }
 
 /// One step of a machine that is not halted.
@@ -49,15 +57,9 @@ pub(crate) fn advance<Mem: Memory>(state: &mut State, memory: &mut Mem) -> StepA
     if state.is_interrupted() {
         return enter(state, Event::Interrupt, 0);
     }
-    let address = state.pc;
-    state.pc = address.wrapping_add(INSTRUCTION_SIZE);
-    match fetch(
-        state.system.is_user(),
-        &state.tables.instruction,
-        memory,
-        address,
-    ) {
-        Err(event) => enter(state, event, address),
-        Ok(word) => perform(state, memory, word),
+    match attempt(state, memory) {
+        Ok(Progress::Ran) => StepAnswer::Ran,
+        Ok(Progress::Halted) => StepAnswer::Halted,
+        Err(raised) => enter(state, raised.event, raised.detail),
     }
 }

@@ -1,50 +1,70 @@
-//! The checks that a fetch and a data access meet, in their order, and the physical address that
-//! they come to.
+//! The checks that an access meets, in their order, and the physical address that it comes to.
 ghost use Rattle.std.specs.Prelude.{◌≡◌};
-ghost use Rattle.translation.specs.Addresses.{accessible, data_address, data_through, fetch_address, fetch_through, is_misaligned, is_protected, is_store, placed, present};
+ghost use Rattle.translation.specs.Addresses.{is_misaligned, is_protected, no_entry, not_valid, physical_address, placed, protected};
 
 use crate::event::Event;
-use memory::{Mark, Memory};
+use memory::Memory;
 use paging::{PAGE_SIZE, Page, PageEntry, PageTable};
 
 /// The first address of the half that user mode may not use.
 pub const SYSTEM_HALF: u16 = 0x8000;
 
 /// How much an access reads or writes.
-#[derive(Clone, Copy)]
+#[derive(Clone, Copy, PartialEq, Eq, Debug)]
 pub enum Width {
     Byte,
     Word,
 }
 
-/// What a data access does.
-#[derive(Clone, Copy)]
+impl Width {
+    /// Whether an access of this width may not lie at `address`.
+    fn is_misaligned(self, address: u16) -> bool
+        ensures { result ≡ is_misaligned self address }
+    {
+        match self {
+            Width::Byte => false,
+            Width::Word => address % 2 == 1,
+        }
+    }
+}
+
+/// What an access does: it fetches an instruction, or it loads or stores data.
+#[derive(Clone, Copy, PartialEq, Eq, Debug)]
 pub enum Access {
+    Fetch,
     Load,
     Store,
 }
 
-fn is_protected(user: bool, address: u16) -> bool
-    ensures { result ≡ is_protected user address }
-{
-    user && address >= SYSTEM_HALF
-}
-
-fn is_misaligned(width: Width, address: u16) -> bool
-    ensures { result ≡ is_misaligned width address }
-{
-    match width {
-        Width::Byte => false,
-        Width::Word => address % 2 == 1,
+impl Access {
+    /// The event of user mode in the system's half.
+    fn protected(self) -> Event
+        ensures { result ≡ protected self }
+    {
+        match self {
+            Access::Fetch => Event::ProtectedInstruction,
+            Access::Load | Access::Store => Event::ProtectedData,
+        }
     }
-}
 
-fn is_store(access: Access) -> bool
-    ensures { result ≡ is_store access }
-{
-    match access {
-        Access::Load => false,
-        Access::Store => true,
+    /// The event of a page that no used entry has.
+    fn no_entry(self) -> Event
+        ensures { result ≡ no_entry self }
+    {
+        match self {
+            Access::Fetch => Event::NoInstructionEntry,
+            Access::Load | Access::Store => Event::NoDataEntry,
+        }
+    }
+
+    /// The event of an entry that is not valid.
+    fn not_valid(self) -> Event
+        ensures { result ≡ not_valid self }
+    {
+        match self {
+            Access::Fetch => Event::InstructionNotValid,
+            Access::Load | Access::Store => Event::DataNotValid,
+        }
     }
 }
 
@@ -55,95 +75,54 @@ fn place(entry: PageEntry, address: u16) -> u16
     entry.physical_field.frame() as u16 * PAGE_SIZE + address % PAGE_SIZE
 }
 
-/// What the mark of a frame says of a fetch from it.
-fn check_present(mark: Mark, at: u16) -> Result<u16, Event>
-    ensures { result ≡ present mark at }
-{
-    match mark {
-        Mark::Plain | Mark::Fixed => Ok(at),
-        Mark::Absent => Err(Event::FrameAbsent),
-    }
+/// What a program sees of the memory: its mode, and the table that maps its pages.
+#[derive(Clone, Copy)]
+pub struct AddressSpace<'t> {
+    pub user: bool,
+    pub table: &'t PageTable,
 }
 
-/// What the mark of a frame says of a data access to it.
-fn check_accessible(access: Access, mark: Mark, at: u16) -> Result<u16, Event>
-    ensures { result ≡ accessible access mark at }
-{
-    match (access, mark) {
-        (_, Mark::Absent) => Err(Event::FrameAbsent),
-        (Access::Store, Mark::Fixed) => Err(Event::ReadOnly),
-        _ => Ok(at),
+impl<'t> AddressSpace<'t> {
+    /// Whether the mode may not use `address`.
+    fn protects(self, address: u16) -> bool
+        ensures { result ≡ is_protected self.entry.user address }
+    {
+        self.user && address >= SYSTEM_HALF
     }
-}
 
-fn fetch_through<Mem: Memory>(entry: PageEntry, memory: &Mem, address: u16) -> Result<u16, Event>
-    ensures { result ≡ fetch_through entry (Mem.marks memory.now) address }
-{
-    if !entry.physical_field.is_valid() {
-        return Err(Event::InstructionNotValid);
-    }
-    let at = place(entry, address);
-    check_present(memory.mark(at), at)
-}
-
-fn data_through<Mem: Memory>(
-    entry: PageEntry,
-    memory: &Mem,
-    address: u16,
-    access: Access,
-) -> Result<u16, Event>
-    ensures { result ≡ data_through access entry (Mem.marks memory.now) address }
-{
-    if !entry.physical_field.is_valid() {
-        return Err(Event::DataNotValid);
-    }
-    if is_store(access) && entry.physical_field.is_read_only() {
-        return Err(Event::ReadOnly);
-    }
-    let at = place(entry, address);
-    check_accessible(access, memory.mark(at), at)
-}
-
-/// The physical address of the instruction at `address`, or the first check that it fails.
-pub fn fetch_address<Mem: Memory>(
-    user: bool,
-    table: &PageTable,
-    memory: &Mem,
-    address: u16,
-) -> Result<u16, Event>
-    ensures { result ≡ fetch_address user table.now.entries (Mem.marks memory.now) address }
-{
-    if is_misaligned(Width::Word, address) {
-        return Err(Event::OddAddress);
-    }
-    if is_protected(user, address) {
-        return Err(Event::ProtectedInstruction);
-    }
-    match table.lookup(Page::holding(address)) {
-        None => Err(Event::NoInstructionEntry),
-        Some(entry) => fetch_through(entry, memory, address),
-    }
-}
-
-/// The physical address of the data at `address`, or the first check that the access fails.
-pub fn data_address<Mem: Memory>(
-    user: bool,
-    table: &PageTable,
-    memory: &Mem,
-    address: u16,
-    access: Access,
-    width: Width,
-) -> Result<u16, Event>
-    ensures { result ≡ data_address user table.now.entries (Mem.marks memory.now) access width address }
-{
-    if is_misaligned(width, address) {
-        return Err(Event::OddAddress);
-    }
-    if is_protected(user, address) {
-        return Err(Event::ProtectedData);
-    }
-    match table.lookup(Page::holding(address)) {
-        None => Err(Event::NoDataEntry),
-        Some(entry) => data_through(entry, memory, address, access),
+    /// The physical address of the instruction or the data at `address`, or the first check that
+    /// the access fails.
+    pub fn physical_address<Mem: Memory>(
+        self,
+        memory: &Mem,
+        address: u16,
+        access: Access,
+        width: Width,
+    ) -> Result<u16, Event>
+        ensures { result ≡ physical_address self.entry.user self.entry.table.now.entries (Mem.marks memory.now) access width address }
+    {
+        if width.is_misaligned(address) {
+            return Err(Event::OddAddress);
+        }
+        if self.protects(address) {
+            return Err(access.protected());
+        }
+        let entry = self
+            .table
+            .lookup(Page::holding(address))
+            .ok_or(access.no_entry())?;
+        if !entry.physical_field.is_valid() {
+            return Err(access.not_valid());
+        }
+        if access == Access::Store && entry.physical_field.is_read_only() {
+            return Err(Event::ReadOnly);
+        }
+        let at = place(entry, address);
+        let mark = memory.mark(at);
+        match access {
+            Access::Fetch | Access::Load => mark.readable()?,
+            Access::Store => mark.writable()?,
+        }
+        Ok(at)
     }
 }

@@ -1,36 +1,38 @@
 //! The events that the machine enters.
 ghost use Rattle.std.specs.Prelude.{◌≡◌};
-ghost use Rattle.translation.specs.Events.{code_of};
+ghost use Rattle.translation.specs.Events.{code_of, fault_event};
+
+use memory::MemoryFault;
 
 /// Why the machine leaves the running program.
 #[derive(Clone, Copy, PartialEq, Eq, Debug)]
 pub enum Event {
     /// The word is no instruction.
-    IllegalInstruction,
+    IllegalInstruction = 0,
     /// A word is asked for at an odd address.
-    OddAddress,
+    OddAddress = 1,
     /// The frame is not there.
-    FrameAbsent,
+    FrameAbsent = 5,
     /// No used entry of the instruction table has the page.
-    NoInstructionEntry,
+    NoInstructionEntry = 6,
     /// No used entry of the data table has the page.
-    NoDataEntry,
+    NoDataEntry = 7,
     /// The entry of the instruction table is not valid.
-    InstructionNotValid,
+    InstructionNotValid = 8,
     /// The entry of the data table is not valid.
-    DataNotValid,
+    DataNotValid = 9,
     /// User mode fetches from the system's half of the addresses.
-    ProtectedInstruction,
+    ProtectedInstruction = 10,
     /// User mode reads or writes in the system's half of the addresses.
-    ProtectedData,
+    ProtectedData = 11,
     /// A store to a read-only entry or to a fixed frame.
-    ReadOnly,
+    ReadOnly = 12,
     /// User mode meets a privileged instruction.
-    Privileged,
+    Privileged = 13,
     /// The program calls the system.
-    SystemCall,
+    SystemCall = 14,
     /// A line waits.
-    Interrupt,
+    Interrupt = 15,
 }
 
 impl Event {
@@ -38,20 +40,17 @@ impl Event {
     pub fn code(self) -> u16
         ensures { result ≡ code_of self }
     {
-        match self {
-            Event::IllegalInstruction => 0,
-            Event::OddAddress => 1,
-            Event::FrameAbsent => 5,
-            Event::NoInstructionEntry => 6,
-            Event::NoDataEntry => 7,
-            Event::InstructionNotValid => 8,
-            Event::DataNotValid => 9,
-            Event::ProtectedInstruction => 10,
-            Event::ProtectedData => 11,
-            Event::ReadOnly => 12,
-            Event::Privileged => 13,
-            Event::SystemCall => 14,
-            Event::Interrupt => 15,
+        self as u16
+    }
+}
+
+impl From<MemoryFault> for Event {
+    ghost from_gives = { λ v r. r ≡ fault_event v };
+
+    fn from(fault: MemoryFault) -> Event {
+        match fault {
+            MemoryFault::Fixed => Event::ReadOnly,
+            MemoryFault::Absent => Event::FrameAbsent,
         }
     }
 }
