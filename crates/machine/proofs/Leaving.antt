@@ -26,6 +26,7 @@ use Rattle.answers.specs.declared.StepAnswer.TheVariants as answer
 use Rattle.state.specs.declared.State.{State}
 use Rattle.execution.specs.Worlds.{Outcome, World, outcome, with_state, world}
 use Rattle.state.specs.States.{register_at, register_set}
+use Rattle.state.specs.Entries.{entered}
 use Rattle.state.specs.Status.{is_user}
 use Rattle.state.specs.Registers.{jumped_if, linked, output_given}
 use Rattle.state.specs.Waiting.{interrupt_given, is_interrupted, lowest_waiting}
@@ -83,9 +84,25 @@ halted_entered P e h = absurd (let z : ◌≡◌ {A = ℕ} 0 1 = cc in omega ari
 ran_lawful : (w : World) (s : State) → RegisterLaw w.state s → Lawful w (outcome (with_state s w) answer.Ran)
 ran_lawful w s l = record { entry = ran_entered _; register = l; bytes = same_bytes _ _ _ _; marks = refl }
 
+pub only_entered : (e : Event) (detail : ℕ) (w : World) → OnlyEntered w (with_state (entered e detail w.state) w)
+only_entered e detail w = record {
+  registers = refl;
+  ports = refl;
+  waiting = refl;
+  tables = refl;
+  halted = refl;
+  marks = refl;
+  bytes = refl;
+  scratch = refl;
+  entry_address = refl;
+  stack_pointer = refl;
+  status = refl;
+  pc = refl;
+}
+
 entering_lawful : (e : Event) (detail : ℕ) (w : World) → Lawful w (entering e detail w)
 entering_lawful e detail w = record {
-  entry = λ e' h. record { registers = refl; scratch = refl; entry_address = refl; stack_pointer = refl; ports = refl; waiting = refl; tables = refl; halted = refl; bytes = refl };
+  entry = λ e' h. only_entered e detail w;
   register = none_changed w.state.registers;
   bytes = same_bytes _ _ _ _;
   marks = refl;
@@ -203,12 +220,12 @@ cond_lawful : (w : World) (b : Bool) (x y : Outcome StepAnswer) → Lawful w x �
 cond_lawful w true x y p q = p
 cond_lawful w false x y p q = q
 
--- PC is no part of the law
+-- the law reads no PC of the world before the step
 from_advanced : (w : World) (o : Outcome StepAnswer) → Lawful (advanced w) o → Lawful w o
 from_advanced w o l = record {
   entry = λ e h.
       let n = l.entry e h in
-      record { registers = n.registers; scratch = n.scratch; entry_address = n.entry_address; stack_pointer = n.stack_pointer; ports = n.ports; waiting = n.waiting; tables = n.tables; halted = n.halted; bytes = n.bytes };
+      record { registers = n.registers; ports = n.ports; waiting = n.waiting; tables = n.tables; halted = n.halted; marks = n.marks; bytes = n.bytes; scratch = n.scratch; entry_address = n.entry_address; stack_pointer = n.stack_pointer; status = n.status; pc = n.pc };
   register = l.register;
   bytes = l.bytes;
   marks = l.marks;
