@@ -34,8 +34,8 @@ pub fn compare<Ours: Memory, Theirs: Memory>(
     ensures their_rest { Theirs.Memory.rest their_memory.new ≡ Theirs.Memory.rest their_memory.old }
 {
     let most = calls.len().min(exchanges.len());
-    for made in 0..most {
-        let exchange = give_both(ours, our_memory, theirs, their_memory, calls[made]);
+    for (made, call) in calls[..most].iter().enumerate() {
+        let exchange = give_both(ours, our_memory, theirs, their_memory, *call);
         exchanges[made] = exchange;
         let comparison = Comparison {
             calls: made + 1,
