@@ -1,9 +1,9 @@
 -- A run keeps the rules that no machine breaks.
-use Rattle.std.proofs.Common.{◌≡◌, ℕ, zero, suc, Bool, true, false, cond, ltb, Some, None, Err, Option, Result, ap, ◌∙◌}
+use Rattle.std.proofs.Common.{◌≡◌, ℕ, zero, suc, true, ltb, Some, None, Option, Result, ap, ◌∙◌}
+use Rattle.std.proofs.lemmas.Bool.{cond_both}
 use Rattle.translation.specs.declared.event.Event.{Event}
 use Rattle.answers.specs.declared.Halt.{Halt}
 use Rattle.answers.specs.declared.Refusal.{Refusal}
-use Rattle.answers.specs.declared.Refusal.TheVariants.{TooManySteps}
 use Rattle.answers.specs.declared.RunAnswer.{RunAnswer}
 use Rattle.answers.specs.declared.StepAnswer.{StepAnswer}
 use Rattle.answers.specs.declared.StepAnswer.TheVariants as answer
@@ -13,7 +13,7 @@ use Rattle.state.specs.Status.{is_user}
 use Rattle.execution.specs.Worlds.{Outcome, World, outcome}
 use Rattle.machine.specs.Runs.{run_of, run_on, within_limit}
 use Rattle.machine.specs.Sound.{sound}
-use Rattle.machine.specs.Steps.{answered, step_of}
+use Rattle.machine.specs.Steps.{step_of}
 use Rattle.machine.proofs.Soundness.{Going, Good, going_sound, step_good}
 use Rattle.machine.proofs.UserSteps.{StaysUser, step_user}
 
@@ -36,11 +36,7 @@ module _ {Stop : Type 0} (stop_of : StepAnswer → Option Stop) (Fits : State �
   run_sound (suc n) w f = on_sound (stop_of (step_of w).answer) (step_of w).after (run_of stop_of n) (run_sound n) (fits_step w f)
 
   within_limit_sound : (n : ℕ) (w : World) → Fits w.state → sound (within_limit stop_of n w).after.state ≡ true
-  within_limit_sound n w f = go (ltb 1000000 n)
-    where
-      go : (b : Bool) → sound (cond b (outcome w (Err TooManySteps)) (answered (run_of stop_of n w))).after.state ≡ true
-      go true = fits_sound w.state f
-      go false = run_sound n w f
+  within_limit_sound n w f = cond_both (ltb 1000000 n) _ _ (λ (o : Outcome (Result (RunAnswer Stop) Refusal)). sound o.after.state ≡ true) (λ _. fits_sound w.state f) (λ _. run_sound n w f)
 
 left_sound : {T : Type 0} {o : Outcome T} {w : World} {r : T} → outcome w r ≡ o → sound o.after.state ≡ true → sound w.state ≡ true
 left_sound e h = ap (λ x. sound x.after.state) e ∙ h
@@ -51,8 +47,8 @@ halt_leaves answer.Halted s g = g
 halt_leaves (answer.Entered e) s g = g
 
 -- what is known to come of a run is sound
-pub halt_run_sound : (n : ℕ) (w w' : World) (r : Result (RunAnswer Halt) Refusal) → outcome w' r ≡ within_limit step_halt n w → Going w.state → sound w'.state ≡ true
-halt_run_sound n w w' r e g =
+pub halt_run_sound : (n : ℕ) (w : World) {w' : World} {r : Result (RunAnswer Halt) Refusal} → outcome w' r ≡ within_limit step_halt n w → Going w.state → sound w'.state ≡ true
+halt_run_sound n w e g =
     left_sound e (within_limit_sound step_halt Going going_sound (λ v h. halt_leaves (step_of v).answer (step_of v).after.state (step_good v h)) n w g)
 
 -- a user program goes on in user mode
@@ -64,8 +60,8 @@ entry_leaves answer.Ran s g u = (g, u)
 entry_leaves answer.Halted s g u = absurd u
 entry_leaves (answer.Entered e) s g u = going_sound s g
 
-pub user_run_sound : (n : ℕ) (w w' : World) (r : Result (RunAnswer Event) Refusal) → outcome w' r ≡ within_limit step_entry n w → Going w.state → is_user w.state.system.status ≡ true
+pub user_run_sound : (n : ℕ) (w : World) {w' : World} {r : Result (RunAnswer Event) Refusal} → outcome w' r ≡ within_limit step_entry n w → Going w.state → is_user w.state.system.status ≡ true
     → sound w'.state ≡ true
-user_run_sound n w w' r e g u =
+user_run_sound n w e g u =
     left_sound e (within_limit_sound step_entry GoingUser (λ s h. going_sound s h.0)
     (λ v h. entry_leaves (step_of v).answer (step_of v).after.state (step_good v h.0) (step_user v h.1)) n w (g, u))

@@ -32,16 +32,16 @@ module _ {Stop : Type 0} (stop_of : StepAnswer → Option Stop) where
       ∙ (ap (λ (o : Outcome StepAnswer). run_on (stop_of o.answer) o.after (run_of stop_of (n - (made + 1)))) (sym e)
       ∙ ap (λ (x : Option Stop). run_on x w' (run_of stop_of (n - (made + 1)))) s)
 
-  pub run_goes_on : (n made : ℕ) (w w' : World) (r : StepAnswer) {whole : Outcome (RunAnswer Stop)} → made < n → outcome w' r ≡ step_of w → stop_of r ≡ None
+  pub run_goes_on : (n made : ℕ) (w : World) {w' : World} {r : StepAnswer} {whole : Outcome (RunAnswer Stop)} → made < n → outcome w' r ≡ step_of w → stop_of r ≡ None
       → left n made w ≡ whole → left n (made + 1) w' ≡ whole
-  run_goes_on n made w w' r h e s i =
+  run_goes_on n made w {w'} {r} h e s i =
       let o = run_of stop_of (n - (made + 1)) w' in
       same_count o.after o.answer.stop (o.answer.steps + (made + 1)) (o.answer.steps + 1 + made) (omega arith)
       ∙ (ap (after made) (sym (run_step n made w w' r None h e s)) ∙ i)
 
-  pub run_stops : (n made : ℕ) (w w' : World) (r : StepAnswer) (stop : Stop) {whole : Outcome (RunAnswer Stop)} → made < n → outcome w' r ≡ step_of w → stop_of r ≡ Some stop
+  pub run_stops : (n made : ℕ) (w : World) {w' : World} {r : StepAnswer} {stop : Stop} {whole : Outcome (RunAnswer Stop)} → made < n → outcome w' r ≡ step_of w → stop_of r ≡ Some stop
       → left n made w ≡ whole → outcome w' (run_answer (made + 1) (Some stop)) ≡ whole
-  run_stops n made w w' r stop h e s i =
+  run_stops n made w {w'} {r} {stop} h e s i =
       same_count w' (Some stop) (made + 1) (1 + made) (omega arith)
       ∙ (ap (after made) (sym (run_step n made w w' r (Some stop) h e s)) ∙ i)
 
