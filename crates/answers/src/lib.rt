@@ -2,7 +2,7 @@
 #![tactic(auto)]
 
 ghost use Rattle.std.specs.Prelude.{◌≡◌};
-ghost use Rattle.answers.specs.Answers.{refusal_number};
+ghost use Rattle.answers.specs.Answers.{refusal_number, step_entry, step_halt};
 
 use translation::event::Event;
 
@@ -47,30 +47,37 @@ pub enum StepAnswer {
     Entered(Event),
 }
 
-/// How a run ended: at HALT, or with all its steps made.
-#[derive(Clone, Copy, PartialEq, Eq, Debug)]
-pub enum Ending {
-    Halted,
-    Spent,
+impl StepAnswer {
+    /// The halt, if the step halted the machine.
+    pub fn halt(self) -> Option<Halt>
+        ensures { result ≡ step_halt self }
+    {
+        match self {
+            StepAnswer::Halted => Some(Halt),
+            StepAnswer::Ran | StepAnswer::Entered(_) => None,
+        }
+    }
+
+    /// The event with which the step entered the system, if it did.
+    pub fn entry(self) -> Option<Event>
+        ensures { result ≡ step_entry self }
+    {
+        match self {
+            StepAnswer::Entered(event) => Some(event),
+            StepAnswer::Ran | StepAnswer::Halted => None,
+        }
+    }
 }
 
-/// How many steps a run made, the halting one with them, and how it ended.
+/// A step has halted the machine. There is nothing more to tell of it.
 #[derive(Clone, Copy, PartialEq, Eq, Debug)]
-pub struct RunAnswer {
+pub struct Halt;
+
+/// How many steps a run made, the one that stopped it with them, and what stopped it: nothing, if
+/// all its steps were made. A run stops at a halt, and a user run at an entry into the system, of
+/// which the event is told.
+#[derive(Clone, Copy, PartialEq, Eq, Debug)]
+pub struct RunAnswer<Stop> {
     pub steps: u32,
-    pub ending: Ending,
-}
-
-/// How a user run ended: with an entry into the system, or with all its steps made.
-#[derive(Clone, Copy, PartialEq, Eq, Debug)]
-pub enum UserEnding {
-    Entered(Event),
-    Spent,
-}
-
-/// How many steps a user run made, the entering one with them, and how it ended.
-#[derive(Clone, Copy, PartialEq, Eq, Debug)]
-pub struct UserRunAnswer {
-    pub steps: u32,
-    pub ending: UserEnding,
+    pub stop: Option<Stop>,
 }

@@ -1,14 +1,11 @@
 -- What each call leaves and answers.
 use Rattle.std.specs.Prelude.{Bool, true, false, Some, None, Ok, Err, Option}
 use Rattle.translation.specs.declared.event.Event.{Event}
-use Rattle.answers.specs.declared.StepAnswer.{StepAnswer}
-use Rattle.answers.specs.declared.StepAnswer.TheVariants as step
-use Rattle.answers.specs.declared.UserEnding.{UserEnding}
-use Rattle.answers.specs.declared.UserEnding.TheVariants as ending
+use Rattle.answers.specs.Answers.{step_entry}
 use Rattle.execution.specs.Worlds.{Outcome, World, outcome, with_state}
 use Rattle.machine.specs.Calls.{drive_answer, driven_at, output_reading, raise_answer, raised_on, register_reading}
+use Rattle.machine.specs.Runs.{user_run_call}
 use Rattle.machine.specs.Steps.{step_call}
-use Rattle.machine.specs.UserRuns.{user_run_call}
 use Rattle.calls.specs.declared.Answer.{Answer}
 use Rattle.calls.specs.declared.Answer.TheVariants.{Stepped, Ran, Done, Value}
 use Rattle.calls.specs.declared.Call.{Call}
@@ -27,21 +24,12 @@ call_of (Drive port word) w = outcome (with_state (driven_at port word w.state) 
 call_of (Register number) w = outcome w (Value (register_reading number w.state.registers))
 call_of (Output port) w = outcome w (Value (output_reading port w.state.ports))
 
--- The event with which a step, or a run of a user program, entered the system.
-abbrev pub step_entry : StepAnswer → Option Event
-step_entry step.Ran = None
-step_entry step.Halted = None
-step_entry (step.Entered e) = Some e
-
-abbrev pub ending_entry : UserEnding → Option Event
-ending_entry (ending.Entered e) = Some e
-ending_entry ending.Spent = None
-
--- A refused call enters nothing, and neither does one that makes no step.
+-- The event with which a call entered the system: as its step tells, or as what stopped its run. A refused call enters nothing,
+-- and neither does one that makes no step.
 abbrev pub entry_of : Answer → Option Event
 entry_of (Stepped (Ok r)) = step_entry r
 entry_of (Stepped (Err r)) = None
-entry_of (Ran (Ok r)) = ending_entry r.ending
+entry_of (Ran (Ok r)) = r.stop
 entry_of (Ran (Err r)) = None
 entry_of (Done r) = None
 entry_of (Value r) = None

@@ -6,13 +6,13 @@ ghost use Rattle.std.specs.Prelude.{◌≡◌};
 ghost use Rattle.execution.specs.Worlds.{outcome, world};
 ghost use Rattle.calls.specs.Calls.{call_of, entry_of};
 
-use answers::{Refusal, StepAnswer, UserEnding, UserRunAnswer};
+use answers::{Refusal, RunAnswer, StepAnswer};
 use machine::machine::Machine;
 use memory::Memory;
 use translation::event::Event;
 
 /// A call of a machine.
-#[derive(Clone, Copy)]
+#[derive(Clone, Copy, PartialEq, Eq, Debug)]
 pub enum Call {
     /// One step.
     Step,
@@ -29,12 +29,12 @@ pub enum Call {
 }
 
 /// What a call answers.
-#[derive(Clone, Copy)]
+#[derive(Clone, Copy, PartialEq, Eq, Debug)]
 pub enum Answer {
     /// What a step came to.
     Stepped(Result<StepAnswer, Refusal>),
     /// How a run of a user program ended.
-    Ran(Result<UserRunAnswer, Refusal>),
+    Ran(Result<RunAnswer<Event>, Refusal>),
     /// A line was raised or a port driven.
     Done(Result<(), Refusal>),
     /// What was read.
@@ -61,15 +61,8 @@ pub fn entry(answer: Answer) -> Option<Event>
     ensures { result ≡ entry_of answer }
 {
     match answer {
-        Answer::Stepped(Ok(StepAnswer::Entered(event))) => Some(event),
-        Answer::Ran(
-            Ok(
-                UserRunAnswer {
-                    ending: UserEnding::Entered(event),
-                    ..
-                },
-            ),
-        ) => Some(event),
+        Answer::Stepped(Ok(step)) => step.entry(),
+        Answer::Ran(Ok(run)) => run.stop,
         _ => None,
     }
 }

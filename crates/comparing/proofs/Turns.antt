@@ -1,14 +1,14 @@
 -- One turn of a comparison.
-use Rattle.std.proofs.Common.{◌≡◌, ℕ, ◌+◌, ◌<◌, ◌≤◌, min, Bool, true, false, cond, ◌||◌, List, [], ◌∷◌, ◌++◌, length, get_or, take, drop, set, None, Option, sym, refl, ap, ◌∙◌, ⊎_elim, arith}
+use Rattle.std.proofs.Common.{◌≡◌, ℕ, zero, suc, ◌+◌, ◌<◌, ◌≤◌, min, Bool, true, false, cond, ◌||◌, List, [], ◌∷◌, ◌++◌, length, get_or, take, drop, set, None, Option, sym, refl, ap, ◌∙◌, arith}
 use Rattle.std.proofs.lemmas.List.{append_assoc, drop_all, drop_more, drop-set-lt, take-append-drop, take_more_set}
-use Rattle.std.proofs.lemmas.Bool.{cases_lt, cond-false, cond-true}
+use Rattle.std.proofs.lemmas.Bool.{cond-false, cond-true}
 use Rattle.translation.specs.declared.event.Event.{Event}
 use Rattle.execution.specs.Worlds.{Outcome, World, outcome}
 use Rattle.calls.specs.declared.Answer.{Answer}
 use Rattle.calls.specs.declared.Call.{Call}
 use Rattle.calls.specs.Calls.{call_of, enters, entry_of, is_event}
 use Rattle.comparing.specs.declared.exchange.Exchange.{Exchange}
-use Rattle.comparing.specs.Comparisons.{Compared, compare_of, compared, compared_on, comparison, one_more}
+use Rattle.comparing.specs.Comparisons.{Compared, compare_of, compared, compared_on, comparison, exchange, one_more}
 
 -- a comparison, after so many calls whose answers are in the slots before it
 abbrev pub after : ℕ → List Exchange → Compared → Compared
@@ -69,58 +69,51 @@ either : (e : Exchange) (x y : Option Event) (t : Bool) → x ≡ entry_of e.our
 either e x y t p q h = ap (λ (z : Option Event). is_event z || enters e.theirs) (sym p) ∙ (ap (λ (z : Option Event). is_event x || is_event z) (sym q) ∙ h)
 
 -- neither entered: the comparison goes on
-pub goes_on : (cs : List Call) (slots : List Exchange) (made : ℕ) (c : Call) (a b a' b' : World) (e : Exchange) (x y : Option Event) → made < length cs → made < length slots
+pub goes_on : (cs : List Call) (slots : List Exchange) (made : ℕ) (c : Call) (a b : World) {a' b' : World} {e : Exchange} {x y : Option Event} {whole : Compared} → made < length cs → made < length slots
     → outcome a' e.ours ≡ call_of (get_or cs made c) a → outcome b' e.theirs ≡ call_of (get_or cs made c) b
     → x ≡ entry_of e.ours → y ≡ entry_of e.theirs → is_event x || is_event y ≡ false
-    → remaining made cs slots a b ≡ remaining (made + 1) cs (set slots made e) a' b'
-goes_on cs slots made c a b a' b' e x y h k p q px py n =
-    turn cs slots made c a b a' b' e h k p q
-    ∙ ap (after (made + 1) (take (made + 1) (set slots made e))) (cond-false (enters e.ours || enters e.theirs) _ _ (either e x y false px py n))
+    → remaining made cs slots a b ≡ whole → remaining (made + 1) cs (set slots made e) a' b' ≡ whole
+goes_on cs slots made c a b {a'} {b'} {e} {x} {y} h k p q px py n i =
+    ap (after (made + 1) (take (made + 1) (set slots made e))) (sym (cond-false (enters e.ours || enters e.theirs) _ _ (either e x y false px py n)))
+    ∙ (sym (turn cs slots made c a b a' b' e h k p q) ∙ i)
 
 -- one entered: the comparison ends with this call
-pub ends : (cs : List Call) (slots : List Exchange) (made : ℕ) (c : Call) (a b a' b' : World) (e : Exchange) (x y : Option Event) → made < length cs → made < length slots
+pub ends : (cs : List Call) (slots : List Exchange) (made : ℕ) (c : Call) (a b : World) {a' b' : World} {e : Exchange} {x y : Option Event} {whole : Compared} → made < length cs → made < length slots
     → outcome a' e.ours ≡ call_of (get_or cs made c) a → outcome b' e.theirs ≡ call_of (get_or cs made c) b
     → x ≡ entry_of e.ours → y ≡ entry_of e.theirs → is_event x || is_event y ≡ true
-    → remaining made cs slots a b ≡ compared a' b' (set slots made e) (comparison (made + 1) x y)
-ends cs slots made c a b a' b' e x y h k p q px py n =
+    → remaining made cs slots a b ≡ whole → compared a' b' (set slots made e) (comparison (made + 1) x y) ≡ whole
+ends cs slots made c a b {a'} {b'} {e} {x} {y} h k p q px py n i =
     let count : 0 + (made + 1) ≡ made + 1 = omega arith in
     let r = λ (z u : Option Event). compared a' b' (set slots made e) (comparison (made + 1) z u) in
-    turn cs slots made c a b a' b' e h k p q
+    sym (turn cs slots made c a b a' b' e h k p q
     ∙ (ap (after (made + 1) (take (made + 1) (set slots made e))) (cond-true (enters e.ours || enters e.theirs) _ _ (either e x y true px py n))
     ∙ (ap (λ (s : List Exchange). compared a' b' s (comparison (0 + (made + 1)) (entry_of e.ours) (entry_of e.theirs))) (take-append-drop (made + 1) (set slots made e))
     ∙ (ap (λ (m : ℕ). compared a' b' (set slots made e) (comparison m (entry_of e.ours) (entry_of e.theirs))) count
-    ∙ (ap (λ (z : Option Event). r z (entry_of e.theirs)) (sym px) ∙ ap (r x) (sym py)))))
+    ∙ (ap (λ (z : Option Event). r z (entry_of e.theirs)) (sym px) ∙ ap (r x) (sym py))))))
+    ∙ i
 
-none_left : (cs : List Call) (slots : List Exchange) (a b : World) → compare_of cs [] a b ≡ compared a b [] (comparison 0 None None)
+-- no call is left
+pub over : (cs : List Call) (slots : List Exchange) (made most : ℕ) (a b : World) {whole : Compared} → length cs ≤ made → made ≡ most
+    → remaining made cs slots a b ≡ whole → compared a b slots (comparison most None None) ≡ whole
 unfolding compare_of
-none_left [] slots a b = refl
-none_left (c ∷ cs) slots a b = refl
-
-used_up : (cs : List Call) (slots : List Exchange) (made : ℕ) (a b : World) → length cs ≤ made
-    → remaining made cs slots a b ≡ compared a b slots (comparison made None None)
-unfolding compare_of
-used_up cs slots made a b h =
-    let count : 0 + made ≡ made = omega arith in
-    ap (λ (l : List Call). after made (take made slots) (compare_of l (drop made slots) a b)) (drop_all made cs h)
-    ∙ (ap (λ (s : List Exchange). compared a b s (comparison (0 + made) None None)) (take-append-drop made slots)
-    ∙ ap (λ (m : ℕ). compared a b slots (comparison m None None)) count)
-
-filled_up : (cs : List Call) (slots : List Exchange) (made : ℕ) (a b : World) → length slots ≤ made
-    → remaining made cs slots a b ≡ compared a b slots (comparison made None None)
-filled_up cs slots made a b h =
-    let count : 0 + made ≡ made = omega arith in
-    let nothing = drop_all made slots h in
-    ap (after made (take made slots)) (ap (λ (s : List Exchange). compare_of (drop made cs) s a b) nothing ∙ none_left (drop made cs) slots a b)
-    ∙ (ap (λ (s : List Exchange). compared a b (take made slots ++ s) (comparison (0 + made) None None)) (sym nothing)
+over cs slots made most a b h e i =
+    let count : 0 + made ≡ most = omega arith in
+    sym (ap (λ (l : List Call). after made (take made slots) (compare_of l (drop made slots) a b)) (drop_all made cs h)
     ∙ (ap (λ (s : List Exchange). compared a b s (comparison (0 + made) None None)) (take-append-drop made slots)
     ∙ ap (λ (m : ℕ). compared a b slots (comparison m None None)) count))
+    ∙ i
 
--- no call or no slot is left
-pub over : (cs : List Call) (slots : List Exchange) (made most : ℕ) (a b : World) → most ≡ min (length cs) (length slots) → made ≡ most
-    → remaining made cs slots a b ≡ compared a b slots (comparison most None None)
-over cs slots made most a b m e =
-    ⊎_elim
-    (λ h. used_up cs slots made a b (let k : length cs ≤ made = omega (arith, m, e, h) in k))
-    (λ h. filled_up cs slots made a b (let k : length slots ≤ made = omega (arith, m, e, h) in k))
-    (cases_lt (length cs) (length slots))
-    ∙ ap (λ (n : ℕ). compared a b slots (comparison n None None)) e
+-- calls for which there is no slot change nothing
+pub taken : (n : ℕ) (cs : List Call) (slots : List Exchange) (a b : World) → n ≡ min (length cs) (length slots) → compare_of (take n cs) slots a b ≡ compare_of cs slots a b
+unfolding compare_of
+taken zero [] slots a b h = refl
+taken (suc n) [] slots a b h = refl
+taken zero (c ∷ cs) [] a b h = refl
+taken (suc n) (c ∷ cs) [] a b h = refl
+taken zero (c ∷ cs) (e ∷ slots) a b h = absurd (omega arith)
+taken (suc n) (c ∷ cs) (e ∷ slots) a b h =
+    let x = call_of c a in
+    let y = call_of c b in
+    let ends = compared x.after y.after slots (comparison 0 (entry_of x.answer) (entry_of y.answer)) in
+    let fewer : n ≡ min (length cs) (length slots) = omega arith in
+    ap (λ (o : Compared). one_more (exchange x.answer y.answer) (cond (enters x.answer || enters y.answer) ends o)) (taken n cs slots x.after y.after fewer)

@@ -9,7 +9,7 @@ use memory::Memory;
 use translation::event::Event;
 
 /// Both sides' answers to a call.
-#[derive(Clone, Copy)]
+#[derive(Clone, Copy, PartialEq, Eq, Debug)]
 pub struct Exchange {
     pub ours: Answer,
     pub theirs: Answer,
@@ -17,7 +17,7 @@ pub struct Exchange {
 
 /// How many calls were given to both machines, and the event with which each of them entered the
 /// system in the last of these calls, if it did.
-#[derive(Clone, Copy)]
+#[derive(Clone, Copy, PartialEq, Eq, Debug)]
 pub struct Comparison {
     pub calls: usize,
     pub ours: Option<Event>,

@@ -20,6 +20,8 @@ use memory::Memory;
 ///
 /// If both machines were in user mode and agreed on the user's share, then all that the isolation
 /// law says holds of what they answered and of what they are after it.
+// A machine and its memory are lent apart: what a struct of the two lends leaves behind, a clause
+// could name only by the places of its fields.
 pub fn compare<Ours: Memory, Theirs: Memory>(
     ours: &mut Machine,
     our_memory: &mut Ours,
@@ -34,8 +36,9 @@ pub fn compare<Ours: Memory, Theirs: Memory>(
     ensures their_rest { Theirs.Memory.rest their_memory.new ≡ Theirs.Memory.rest their_memory.old }
 {
     let most = calls.len().min(exchanges.len());
-    for made in 0..most {
-        let exchange = give_both(ours, our_memory, theirs, their_memory, calls[made]);
+    for (made, call) in calls[..most].iter().enumerate() {
+        let exchange = give_both(ours, our_memory, theirs, their_memory, *call);
+        // By index: once what `iter_mut` lends is over, no clause says what the slots hold.
         exchanges[made] = exchange;
         let comparison = Comparison {
             calls: made + 1,

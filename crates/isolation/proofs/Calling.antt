@@ -1,57 +1,55 @@
 -- One call, of two machines in user mode that agree.
-use Rattle.std.proofs.Common.{◌≡◌, ℕ, zero, suc, ◌+◌, Bool, true, false, cond, not, ltb, List, set, Ok, Err, sym, refl, ap, ◌∙◌, subst, subst₂}
+use Rattle.std.proofs.Common.{◌≡◌, ℕ, zero, suc, ◌+◌, Bool, true, false, cond, not, ltb, List, set, Some, None, Ok, Err, Option, sym, refl, ap, ◌∙◌, subst, subst₂}
 use Rattle.std.proofs.lemmas.Bool.{cond-false, not_from_true}
+use Rattle.translation.specs.declared.event.Event.{Event}
 use Rattle.answers.specs.declared.Refusal.TheVariants as refusal
 use Rattle.answers.specs.declared.StepAnswer.{StepAnswer}
-use Rattle.answers.specs.declared.StepAnswer.TheVariants as answer
-use Rattle.answers.specs.declared.UserRunAnswer.{UserRunAnswer}
+use Rattle.answers.specs.declared.RunAnswer.{RunAnswer}
+use Rattle.answers.specs.Answers.{step_entry}
 use Rattle.state.specs.declared.Ports.{Ports}
 use Rattle.machine.specs.Calls.{drive_answer, output_reading, raise_answer, register_reading}
 use Rattle.state.specs.States.{with_ports, with_waiting}
 use Rattle.state.specs.Status.{is_user}
 use Rattle.machine.specs.Steps.{answered, step_of}
-use Rattle.machine.specs.UserRuns.{one_more_of_user, user_run_answer, user_run_of, user_run_on}
+use Rattle.machine.specs.Runs.{one_more, run_answer, run_of, run_on}
 use Rattle.execution.specs.Worlds.{Outcome, World, outcome, with_state}
 use Rattle.calls.specs.declared.Answer.{Answer}
 use Rattle.calls.specs.declared.Answer.TheVariants.{Stepped, Ran, Done, Value}
 use Rattle.calls.specs.declared.Call.{Call}
 use Rattle.calls.specs.declared.Call.TheVariants as call
-use Rattle.calls.specs.Calls.{call_of, ending_entry, enters, is_event, told}
+use Rattle.calls.specs.Calls.{call_of, enters, is_event, told}
 use Rattle.isolation.specs.Share.{Agree}
 use Rattle.isolation.proofs.Agreeing.{Running, changed, changed_agree, changed_stands, same_stands, stands_running}
 use Rattle.isolation.proofs.Entering.{Both, Paired, paired_after, ran_both, still_ours, still_theirs}
-use Rattle.isolation.proofs.Execution.{is_entry}
 use Rattle.isolation.proofs.Stepping.{step_paired}
 
 -- user runs
-abbrev is_run_entry : UserRunAnswer → Bool
-is_run_entry r = is_event (ending_entry r.ending)
+abbrev is_run_entry : RunAnswer Event → Bool
+is_run_entry r = is_event r.stop
 
 -- two runs of the same length from any two machines that agree
 abbrev RunsPaired : ℕ → Type 0
-RunsPaired n = (a b : World) → Running a → Running b → Agree a b → Paired is_run_entry a b (user_run_of n a) (user_run_of n b)
+RunsPaired n = (a b : World) → Running a → Running b → Agree a b → Paired is_run_entry a b (run_of step_entry n a) (run_of step_entry n b)
 
-more_paired : (a b : World) (x y : Outcome UserRunAnswer) → Paired is_run_entry a b x y → Paired is_run_entry a b (one_more_of_user x) (one_more_of_user y)
-more_paired a b x y p = record { answer = ap (λ (r : UserRunAnswer). user_run_answer (r.steps + 1) r.ending) p.answer; both = p.both }
+more_paired : (a b : World) (x y : Outcome (RunAnswer Event)) → Paired is_run_entry a b x y → Paired is_run_entry a b (one_more x) (one_more y)
+more_paired a b x y p = record { answer = ap (λ (r : RunAnswer Event). run_answer (r.steps + 1) r.stop) p.answer; both = p.both }
 
-others_paired : (n : ℕ) (a b p q : World) → Running a → Running b → Both false a b p q → RunsPaired n → Paired is_run_entry a b (one_more_of_user (user_run_of n p)) (one_more_of_user (user_run_of n q))
-others_paired n a b p q u v first others =
-    more_paired a b (user_run_of n p) (user_run_of n q)
-    (paired_after is_run_entry a b p q (user_run_of n p) (user_run_of n q) first
+on_paired : (n : ℕ) (a b p q : World) → Running a → Running b → (stop : Option Event) → Both (is_event stop) a b p q → RunsPaired n
+    → Paired is_run_entry a b (run_on stop p (run_of step_entry n)) (run_on stop q (run_of step_entry n))
+on_paired n a b p q u v (Some e) first others = record { answer = refl; both = first }
+on_paired n a b p q u v None first others =
+    more_paired a b (run_of step_entry n p) (run_of step_entry n q)
+    (paired_after is_run_entry a b p q (run_of step_entry n p) (run_of step_entry n q) first
     (others p q (stands_running a p u (still_ours a b p q first)) (stands_running b q v (still_theirs a b p q first)) first.came.agree))
 
-on_paired : (n : ℕ) (a b p q : World) → Running a → Running b → (r : StepAnswer) → Both (is_entry r) a b p q → RunsPaired n → Paired is_run_entry a b (user_run_on r p (user_run_of n)) (user_run_on r q (user_run_of n))
-on_paired n a b p q u v answer.Ran first others = others_paired n a b p q u v first others
-on_paired n a b p q u v answer.Halted first others = others_paired n a b p q u v first others
-on_paired n a b p q u v (answer.Entered e) first others = record { answer = refl; both = first }
-
 run_paired : (n : ℕ) → RunsPaired n
-unfolding user_run_of
+unfolding run_of
 run_paired zero a b u v g = record { answer = refl; both = ran_both a b a b g (same_stands a) (same_stands b) }
 run_paired (suc n) a b u v g =
     let p = step_paired a b u v g in
-    subst (λ (r : StepAnswer). Paired is_run_entry a b (user_run_on (step_of a).answer (step_of a).after (user_run_of n)) (user_run_on r (step_of b).after (user_run_of n))) p.answer
-    (on_paired n a b (step_of a).after (step_of b).after u v (step_of a).answer p.both (run_paired n))
+    let first = step_entry (step_of a).answer in
+    subst (λ (stop : Option Event). Paired is_run_entry a b (run_on first (step_of a).after (run_of step_entry n)) (run_on stop (step_of b).after (run_of step_entry n))) (ap step_entry p.answer)
+    (on_paired n a b (step_of a).after (step_of b).after u v first p.both (run_paired n))
 
 -- calls
 pub along : {a b : World} {x x' y y' : Outcome Answer} → x ≡ x' → y ≡ y' → Paired enters a b x y → Paired enters a b x' y'
@@ -71,7 +69,7 @@ module _ (a b : World) (u : Running a) (v : Running b) (g : Agree a b) where
   run_call_paired n = along (made a u) (made b v) (go (ltb 1000000 n))
     where
       counted : Bool → World → Outcome Answer
-      counted z w = told Ran (cond z (outcome w (Err refusal.TooManySteps)) (answered (user_run_of n w)))
+      counted z w = told Ran (cond z (outcome w (Err refusal.TooManySteps)) (answered (run_of step_entry n w)))
 
       made : (w : World) → Running w → counted (ltb 1000000 n) w ≡ call_of (call.UserRun n) w
       made w r =
@@ -80,7 +78,7 @@ module _ (a b : World) (u : Running a) (v : Running b) (g : Agree a b) where
 
       go : (z : Bool) → Paired enters a b (counted z a) (counted z b)
       go true = same_paired (Ran (Err refusal.TooManySteps)) (Ran (Err refusal.TooManySteps)) refl refl
-      go false = let p = run_paired n a b u v g in record { answer = ap (λ (r : UserRunAnswer). Ran (Ok r)) p.answer; both = p.both }
+      go false = let p = run_paired n a b u v g in record { answer = ap (λ (r : RunAnswer Event). Ran (Ok r)) p.answer; both = p.both }
 
   -- lines and ports change alike
   changed_call : (o o' : Ports) (x x' : List Bool) (r : Answer) → enters r ≡ false → o ≡ o' → x ≡ x' → Paired enters a b (outcome (changed a.state.registers a.state.pc o x a) r) (outcome (changed b.state.registers b.state.pc o' x' b) r)

@@ -7,8 +7,9 @@ use Rattle.state.specs.declared.Tables.{Tables}
 use Rattle.state.specs.Status.{is_user}
 use Rattle.state.specs.Entries.{entered}
 use Rattle.execution.specs.Worlds.{Outcome, World, with_state}
+use Rattle.machine.proofs.Leaving.{only_entered}
 use Rattle.isolation.specs.Share.{Agree, AgreeButPc, OpenForWriting}
-use Rattle.isolation.specs.Law.{Alike, EntryOnly, HaveEntered, Kept, StillUser}
+use Rattle.isolation.specs.Law.{Alike, HaveEntered, Kept, StillUser}
 use Rattle.isolation.proofs.Agreeing.{Running, Stands}
 
 -- where they are, by whether they have entered the system
@@ -28,22 +29,6 @@ ran_both a b a' b' g s t =
 -- an entry, of one machine
 abbrev pub entered_by : Event → ℕ → World → World
 entered_by e detail w = with_state (entered e detail w.state) w
-
-entry_only : (e : Event) (detail : ℕ) (w : World) → EntryOnly w (entered_by e detail w)
-entry_only e detail w = record {
-  registers = refl;
-  ports = refl;
-  waiting = refl;
-  tables = refl;
-  halted = refl;
-  marks = refl;
-  bytes = refl;
-  scratch = refl;
-  entry_address = refl;
-  stack_pointer = refl;
-  status = refl;
-  pc = refl;
-}
 
 -- and of two
 entered_agree : (p q : World) (e : Event) (d d' : ℕ) → Agree p q → AgreeButPc (entered_by e d p) (entered_by e d' q)
@@ -71,8 +56,8 @@ entering_both a b p q e d d' status g s t same =
         agreed = g;
         our_system = s.system;
         their_system = t.system;
-        our_entry = entry_only e d p;
-        their_entry = entry_only e d' q;
+        our_entry = only_entered e d p;
+        their_entry = only_entered e d' q;
         saved_status = status;
         return_address = g.pc;
         event = refl;

@@ -15,6 +15,7 @@ use Rattle.translation.specs.declared.event.Event.TheVariants as event
 use Rattle.access.specs.Accesses.{loaded, store_answer, stored}
 use Rattle.answers.specs.declared.StepAnswer.{StepAnswer}
 use Rattle.answers.specs.declared.StepAnswer.TheVariants as answer
+use Rattle.answers.specs.Answers.{step_entry}
 use Rattle.state.specs.declared.Ports.{Ports}
 use Rattle.state.specs.declared.SystemRegisters.{SystemRegisters}
 use Rattle.execution.specs.Execution.{executed, extended, loaded_by, loaded_into, privileged_by, store_answered_by, stored_from}
@@ -24,7 +25,7 @@ use Rattle.state.specs.Status.{is_user}
 use Rattle.machine.specs.Steps.{concluded, entering, performed}
 use Rattle.execution.specs.Worlds.{Outcome, World, outcome, with_state, world}
 use Rattle.machine.proofs.Soundness.{resolved}
-use Rattle.calls.specs.Calls.{is_event, step_entry}
+use Rattle.calls.specs.Calls.{is_event}
 use Rattle.isolation.specs.Share.{Agree}
 use Rattle.isolation.proofs.Translation.{loaded_alike, store_answer_alike, stored_alike, stored_kept}
 use Rattle.isolation.proofs.Agreeing.{Running, Stands, accesses_shown, changed, changed_agree, changed_stands, same_stands, status_alike}

@@ -1,5 +1,6 @@
 -- What is promised of two machines that agree on the user's share, and of each of them.
 use Rattle.std.specs.Prelude.{◌≡◌, ℕ, ◌/◌, true, false, List}
+use Rattle.machine.specs.Laws.{OnlyEntered}
 use Rattle.machine.specs.Sound.{sound}
 use Rattle.state.specs.Status.{is_user}
 use Rattle.execution.specs.Worlds.{World}
@@ -16,21 +17,6 @@ pub record Kept (before after : World) : Type 0 where
   pub marks : after.marks ≡ before.marks
   pub bytes : (address : ℕ) → (OpenForWriting before.state.tables (address / 1024) → ⊥) → after.bytes address ≡ before.bytes address
 
--- An entry writes just S0 to S3, S7 and PC: S7 takes 1, and PC takes the entry address S5.
-pub record EntryOnly (before after : World) : Type 0 where
-  pub registers : after.state.registers ≡ before.state.registers
-  pub ports : after.state.ports ≡ before.state.ports
-  pub waiting : after.state.waiting ≡ before.state.waiting
-  pub tables : after.state.tables ≡ before.state.tables
-  pub halted : after.state.halted ≡ before.state.halted
-  pub marks : after.marks ≡ before.marks
-  pub bytes : after.bytes ≡ before.bytes
-  pub scratch : after.state.system.scratch ≡ before.state.system.scratch
-  pub entry_address : after.state.system.entry_address ≡ before.state.system.entry_address
-  pub stack_pointer : after.state.system.stack_pointer ≡ before.state.system.stack_pointer
-  pub status : after.state.system.status ≡ 1
-  pub pc : after.state.pc ≡ before.state.system.entry_address
-
 -- Where the machines are still in user mode: they agree, and no system register has changed.
 pub record StillUser (ours theirs ours' theirs' : World) : Type 0 where
   pub agree : Agree ours' theirs'
@@ -45,8 +31,8 @@ pub record HaveEntered (ours theirs ours' theirs' : World) : Type 0 where
   pub agreed : Agree our_last their_last
   pub our_system : our_last.state.system ≡ ours.state.system
   pub their_system : their_last.state.system ≡ theirs.state.system
-  pub our_entry : EntryOnly our_last ours'
-  pub their_entry : EntryOnly their_last theirs'
+  pub our_entry : OnlyEntered our_last ours'
+  pub their_entry : OnlyEntered their_last theirs'
   pub saved_status : ours'.state.system.saved_status ≡ theirs'.state.system.saved_status
   pub return_address : ours'.state.system.return_address ≡ theirs'.state.system.return_address
   pub event : ours'.state.system.event ≡ theirs'.state.system.event

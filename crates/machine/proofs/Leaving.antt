@@ -1,6 +1,6 @@
 -- What every step leaves alone, by the kinds of instruction.
-use Rattle.std.proofs.Common.{◌≡◌, ℕ, ◌+◌, ◌/◌, ◌%◌, Bool, true, false, cond, not, eqb, List, set, Some, None, Ok, Err, Option, Result, sym, refl, ◌∙◌, subst, arith, get_or-set_other}
-use Rattle.std.proofs.lemmas.Bool.{cond-false, ne_eqb}
+use Rattle.std.proofs.Common.{◌≡◌, ℕ, ◌+◌, ◌/◌, ◌%◌, Bool, true, false, not, eqb, List, set, Some, None, Ok, Err, Option, Result, sym, refl, ◌∙◌, subst, get_or-set_other}
+use Rattle.std.proofs.lemmas.Bool.{cond-false, cond_both, ne_eqb}
 use Rattle.memory.specs.declared.Mark.{Mark}
 use Rattle.memory.specs.Meaning.{put}
 use Rattle.arithmetic.specs.Words.{signed_added, words_added}
@@ -26,6 +26,7 @@ use Rattle.answers.specs.declared.StepAnswer.TheVariants as answer
 use Rattle.state.specs.declared.State.{State}
 use Rattle.execution.specs.Worlds.{Outcome, World, outcome, with_state, world}
 use Rattle.state.specs.States.{register_at, register_set}
+use Rattle.state.specs.Entries.{entered}
 use Rattle.state.specs.Status.{is_user}
 use Rattle.state.specs.Registers.{jumped_if, linked, output_given}
 use Rattle.state.specs.Waiting.{interrupt_given, is_interrupted, lowest_waiting}
@@ -74,18 +75,28 @@ pub record Lawful (w : World) (o : Outcome StepAnswer) : Type 0 where
   pub bytes : BytesLaw w o.after
   pub marks : o.after.marks ≡ w.marks
 
-ran_entered : (P : Type 0) (e : Event) → answer.Ran ≡ answer.Entered e → P
-ran_entered P e h = absurd (let z : ◌≡◌ {A = ℕ} 0 1 = cc in omega arith)
-
-halted_entered : (P : Type 0) (e : Event) → answer.Halted ≡ answer.Entered e → P
-halted_entered P e h = absurd (let z : ◌≡◌ {A = ℕ} 0 1 = cc in omega arith)
-
 ran_lawful : (w : World) (s : State) → RegisterLaw w.state s → Lawful w (outcome (with_state s w) answer.Ran)
-ran_lawful w s l = record { entry = ran_entered _; register = l; bytes = same_bytes _ _ _ _; marks = refl }
+ran_lawful w s l = record { entry = λ e h. absurd cc; register = l; bytes = same_bytes _ _ _ _; marks = refl }
+
+pub only_entered : (e : Event) (detail : ℕ) (w : World) → OnlyEntered w (with_state (entered e detail w.state) w)
+only_entered e detail w = record {
+  registers = refl;
+  ports = refl;
+  waiting = refl;
+  tables = refl;
+  halted = refl;
+  marks = refl;
+  bytes = refl;
+  scratch = refl;
+  entry_address = refl;
+  stack_pointer = refl;
+  status = refl;
+  pc = refl;
+}
 
 entering_lawful : (e : Event) (detail : ℕ) (w : World) → Lawful w (entering e detail w)
 entering_lawful e detail w = record {
-  entry = λ e' h. record { registers = refl; scratch = refl; entry_address = refl; stack_pointer = refl; ports = refl; waiting = refl; tables = refl; halted = refl; bytes = refl };
+  entry = λ e' h. only_entered e detail w;
   register = none_changed w.state.registers;
   bytes = same_bytes _ _ _ _;
   marks = refl;
@@ -106,11 +117,8 @@ loaded_lawful (Err e) d width address w = entering_lawful e address w
 stored_entered : (r : Result ℕ Event) (address : ℕ) (width : Width) (v : ℕ) (w : World) → (e : Event)
     → (concluded (store_answered_by (store_answer_at r) address) (world w.state w.marks (stored_at r width w.bytes v))).answer ≡ answer.Entered e
     → OnlyEntered w (concluded (store_answered_by (store_answer_at r) address) (world w.state w.marks (stored_at r width w.bytes v))).after
-stored_entered (Ok at) address width v w e h = ran_entered _ e h
-stored_entered (Err f) address width v w e h = (entering_lawful f address w).entry e refl'
-  where
-    refl' : answer.Entered f ≡ answer.Entered e
-    refl' = h
+stored_entered (Ok at) address width v w e h = absurd cc
+stored_entered (Err f) address width v w e h = only_entered f address w
 
 stored_register : (r : Result (Unit {0}) Event) (address : ℕ) (w : World) → RegisterLaw w.state (concluded (store_answered_by r address) w).after.state
 stored_register (Ok u) address w = none_changed w.state.registers
@@ -162,7 +170,7 @@ controlled_lawful (privileged.WriteSystem r a) w = ran_lawful w (controlled (pri
 controlled_lawful (privileged.WriteEntry t f b a) w = ran_lawful w (controlled (privileged.WriteEntry t f b a) w.state) (none_changed w.state.registers)
 controlled_lawful (privileged.Flush a) w = ran_lawful w (controlled (privileged.Flush a) w.state) (none_changed w.state.registers)
 controlled_lawful privileged.Halt w =
-    record { entry = halted_entered _; register = none_changed w.state.registers; bytes = same_bytes _ _ _ _; marks = refl }
+    record { entry = λ e h. absurd cc; register = none_changed w.state.registers; bytes = same_bytes _ _ _ _; marks = refl }
 
 privileged_lawful : (b : Bool) (p : Privileged) (w : World) → Lawful w (resolved (privileged_by b p w))
 privileged_lawful true p w = entering_lawful event.Privileged 0 w
@@ -199,16 +207,12 @@ fetched_lawful : (r : Result ℕ Event) (address : ℕ) (w : World) → Lawful w
 fetched_lawful (Ok word) address w = performed_lawful (decode_of word) w
 fetched_lawful (Err e) address w = entering_lawful e address w
 
-cond_lawful : (w : World) (b : Bool) (x y : Outcome StepAnswer) → Lawful w x → Lawful w y → Lawful w (cond b x y)
-cond_lawful w true x y p q = p
-cond_lawful w false x y p q = q
-
--- PC is no part of the law
+-- the law reads no PC of the world before the step
 from_advanced : (w : World) (o : Outcome StepAnswer) → Lawful (advanced w) o → Lawful w o
 from_advanced w o l = record {
   entry = λ e h.
       let n = l.entry e h in
-      record { registers = n.registers; scratch = n.scratch; entry_address = n.entry_address; stack_pointer = n.stack_pointer; ports = n.ports; waiting = n.waiting; tables = n.tables; halted = n.halted; bytes = n.bytes };
+      record { registers = n.registers; ports = n.ports; waiting = n.waiting; tables = n.tables; halted = n.halted; marks = n.marks; bytes = n.bytes; scratch = n.scratch; entry_address = n.entry_address; stack_pointer = n.stack_pointer; status = n.status; pc = n.pc };
   register = l.register;
   bytes = l.bytes;
   marks = l.marks;
@@ -216,8 +220,8 @@ from_advanced w o l = record {
 
 step_lawful : (w : World) → Lawful w (step_of w)
 step_lawful w =
-    cond_lawful w (is_interrupted w.state) _ _ (entering_lawful event.Interrupt 0 w)
-    (from_advanced w _
+    cond_both (is_interrupted w.state) _ _ (Lawful w) (λ _. entering_lawful event.Interrupt 0 w)
+    (λ _. from_advanced w _
     (fetched_lawful (fetched (is_user w.state.system.status) w.state.tables.instruction.entries w.marks w.bytes w.state.pc) w.state.pc (advanced w)))
 
 entered_same : (r : StepAnswer) (e : Event) → ◌≡◌ {A = Result StepAnswer Refusal} (Ok r) (Ok (answer.Entered e)) → r ≡ answer.Entered e
@@ -229,9 +233,6 @@ stepped_law w w' r p =
     let l = subst (λ (o : Outcome StepAnswer). Lawful w o) (sym p) (step_lawful w) in
     record { entry = λ e h. l.entry e (entered_same r e h); register = l.register; bytes = l.bytes; marks = l.marks }
 
-refused_entered : (P : Type 0) (f : Refusal) (e : Event) → ◌≡◌ {A = Result StepAnswer Refusal} (Err f) (Ok (answer.Entered e)) → P
-refused_entered P f e h = absurd (let z : ◌≡◌ {A = ℕ} 0 1 = cc in omega arith)
-
 pub refused_law : (w : World) (f : Refusal) → StepLaw w w (Err f)
 refused_law w f =
-    record { entry = refused_entered _ f; register = none_changed w.state.registers; bytes = same_bytes _ _ _ _; marks = refl }
+    record { entry = λ e h. absurd cc; register = none_changed w.state.registers; bytes = same_bytes _ _ _ _; marks = refl }

@@ -1,5 +1,5 @@
 mod Turns
+mod Keeping
 pub mod Soundness
 pub mod Leaving
 pub mod UserSteps
-mod UserTurns

@@ -1,6 +1,6 @@
 -- A step keeps the rules that no machine breaks.
-use Rattle.std.proofs.Common.{◌≡◌, ℕ, zero, suc, ◌%◌, ◌<◌, Bool, true, false, cond, not, eqb, ltb, List, [], ◌∷◌, map, get_or, set, Some, None, Ok, Err, Option, Result, sym, refl, ap, subst, arith}
-use Rattle.std.proofs.lemmas.Bool.{and_from, and_parts, eq-eqb, eqb-false, lt-ltb, ltb-true}
+use Rattle.std.proofs.Common.{◌≡◌, ℕ, zero, suc, ◌%◌, ◌<◌, Bool, true, false, not, eqb, ltb, List, [], ◌∷◌, map, get_or, set, Some, None, Ok, Err, Option, Result, sym, refl, ap, subst, arith}
+use Rattle.std.proofs.lemmas.Bool.{and_from, cond_both, and_parts, eq-eqb, eqb-false, lt-ltb, ltb-true}
 use Rattle.arithmetic.specs.Words.{signed_added, words_added}
 use Rattle.instruction.specs.declared.EntryField.{EntryField}
 use Rattle.instruction.specs.declared.EntryField.TheVariants.{Physical, Virtual}
@@ -256,14 +256,10 @@ fetched_good : (r : Result ℕ Event) (address : ℕ) (w : World) → Going w.st
 fetched_good (Ok word) address w g = performed_good (decode_of word) w g
 fetched_good (Err e) address w g = entering_good e address w g
 
-cond_good : (b : Bool) (x y : Outcome StepAnswer) → GoodAfter x → GoodAfter y → GoodAfter (cond b x y)
-cond_good true x y p q = p
-cond_good false x y p q = q
-
 pub step_good : (w : World) → Going w.state → Good (step_of w).answer (step_of w).after.state
 step_good w g =
-    cond_good (is_interrupted w.state) _ _ (entering_good event.Interrupt 0 w g)
-    (fetched_good (fetched (is_user w.state.system.status) w.state.tables.instruction.entries w.marks w.bytes w.state.pc) w.state.pc (advanced w) g)
+    cond_both (is_interrupted w.state) _ _ GoodAfter (λ _. entering_good event.Interrupt 0 w g)
+    (λ _. fetched_good (fetched (is_user w.state.system.status) w.state.tables.instruction.entries w.marks w.bytes w.state.pc) w.state.pc (advanced w) g)
 
 -- and so is what is known to be left by a step
 pub stepped_good : (w w' : World) (r : StepAnswer) → outcome w' r ≡ step_of w → Going w.state → Good r w'.state

@@ -1,5 +1,6 @@
 -- A step in user mode enters the system, or runs and stays in user mode. It never halts.
-use Rattle.std.proofs.Common.{◌≡◌, ℕ, Bool, true, false, cond, not, eqb, Some, None, Ok, Err, Option, Result, sym, subst}
+use Rattle.std.proofs.Common.{◌≡◌, ℕ, Bool, true, false, not, eqb, Some, None, Ok, Err, Option, Result, sym, subst}
+use Rattle.std.proofs.lemmas.Bool.{cond_both}
 use Rattle.arithmetic.specs.Words.{signed_added, words_added}
 use Rattle.instruction.specs.declared.Instruction.{Instruction}
 use Rattle.instruction.specs.declared.Instruction.TheVariants as instruction
@@ -88,14 +89,10 @@ fetched_user : (r : Result ℕ Event) (address : ℕ) (w : World) → InUserMode
 fetched_user (Ok word) address w u = performed_user (decode_of word) w u
 fetched_user (Err e) address w u = tt
 
-cond_user : (b : Bool) (x y : Outcome StepAnswer) → StaysAfter x → StaysAfter y → StaysAfter (cond b x y)
-cond_user true x y p q = p
-cond_user false x y p q = q
-
 pub step_user : (w : World) → InUserMode w.state → StaysUser (step_of w).answer (step_of w).after.state
 step_user w u =
-    cond_user (is_interrupted w.state) _ _ tt
-    (fetched_user (fetched (is_user w.state.system.status) w.state.tables.instruction.entries w.marks w.bytes w.state.pc) w.state.pc (advanced w) u)
+    cond_both (is_interrupted w.state) _ _ StaysAfter (λ _. tt)
+    (λ _. fetched_user (fetched (is_user w.state.system.status) w.state.tables.instruction.entries w.marks w.bytes w.state.pc) w.state.pc (advanced w) u)
 
 -- and so is what is known to be left by a step
 pub stepped_user : (w w' : World) (r : StepAnswer) → outcome w' r ≡ step_of w → InUserMode w.state → StaysUser r w'.state

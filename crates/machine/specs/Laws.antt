@@ -10,17 +10,20 @@ use Rattle.answers.specs.declared.StepAnswer.TheVariants.{Entered}
 use Rattle.execution.specs.Worlds.{World}
 use Rattle.state.specs.Status.{is_user}
 
--- An entry writes S0 to S3, S7 and PC, and all else is as it was.
+-- An entry writes just S0 to S3, S7 and PC: S7 takes 1, and PC takes the entry address S5. All else is as it was.
 pub record OnlyEntered (before after : World) : Type 0 where
   pub registers : after.state.registers ≡ before.state.registers
-  pub scratch : after.state.system.scratch ≡ before.state.system.scratch
-  pub entry_address : after.state.system.entry_address ≡ before.state.system.entry_address
-  pub stack_pointer : after.state.system.stack_pointer ≡ before.state.system.stack_pointer
   pub ports : after.state.ports ≡ before.state.ports
   pub waiting : after.state.waiting ≡ before.state.waiting
   pub tables : after.state.tables ≡ before.state.tables
   pub halted : after.state.halted ≡ before.state.halted
+  pub marks : after.marks ≡ before.marks
   pub bytes : after.bytes ≡ before.bytes
+  pub scratch : after.state.system.scratch ≡ before.state.system.scratch
+  pub entry_address : after.state.system.entry_address ≡ before.state.system.entry_address
+  pub stack_pointer : after.state.system.stack_pointer ≡ before.state.system.stack_pointer
+  pub status : after.state.system.status ≡ 1
+  pub pc : after.state.pc ≡ before.state.system.entry_address
 
 -- All registers but one are as they were.
 pub record AtMostOne (before after : List ℕ) : Type 0 where

@@ -4,4 +4,3 @@ pub mod Steps
 pub mod Runs
 pub mod Cards
 pub mod Laws
-pub mod UserRuns

@@ -3,4 +3,5 @@
 
 pub mod cards;
 pub mod machine;
+mod running;
 mod stepping;

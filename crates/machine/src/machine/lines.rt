@@ -5,19 +5,18 @@ ghost use Rattle.machine.specs.Calls.{raise_answer, raised_on, waiting_reading};
 use crate::machine::Machine;
 use answers::Refusal;
 
-/// How many lines there are.
-const LINES: u32 = 8;
-
 impl Machine {
     /// Marks a line as waiting. It does not wake a halted machine.
     pub fn raise(&mut self, line: u32) -> Result<(), Refusal>
         ensures answer { result ≡ raise_answer line }
         ensures state { self.new.state ≡ raised_on line self.old.state }
     {
-        if line >= LINES {
+        // By index: once what `get_mut` lends is over, no clause says what the array holds.
+        let line = line as usize;
+        if line >= self.state.waiting.len() {
             return Err(Refusal::NoSuchLine);
         }
-        self.state.waiting[line as usize] = true;
+        self.state.waiting[line] = true;
         Ok(())
     }
 
@@ -25,9 +24,10 @@ impl Machine {
     pub fn is_waiting(&self, line: u32) -> Result<bool, Refusal>
         ensures { result ≡ waiting_reading line self.now.state.waiting }
     {
-        if line >= LINES {
-            return Err(Refusal::NoSuchLine);
-        }
-        Ok(self.state.waiting[line as usize])
+        self.state
+            .waiting
+            .get(line as usize)
+            .copied()
+            .ok_or(Refusal::NoSuchLine)
     }
 }

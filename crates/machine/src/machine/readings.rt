@@ -5,24 +5,23 @@ ghost use Rattle.machine.specs.Calls.{register_reading, system_reading};
 use crate::machine::Machine;
 use answers::Refusal;
 
-/// How many R registers there are.
-const REGISTERS: u32 = 8;
-
 impl Machine {
     /// The value of R0 to R7, by its number.
     pub fn register(&self, number: u32) -> Result<u16, Refusal>
         ensures { result ≡ register_reading number self.now.state.registers }
     {
-        if number >= REGISTERS {
-            return Err(Refusal::NoSuchRegister);
-        }
-        Ok(self.state.registers[number as usize])
+        self.state
+            .registers
+            .get(number as usize)
+            .copied()
+            .ok_or(Refusal::NoSuchRegister)
     }
 
     /// The value of S0 to S7, by its number.
     pub fn system_register(&self, number: u32) -> Result<u16, Refusal>
         ensures { result ≡ system_reading number self.now.state.system }
     {
+        // By number: the number is the caller's, and may name no register.
         match number {
             0 => Ok(self.state.system.saved_status),
             1 => Ok(self.state.system.return_address),

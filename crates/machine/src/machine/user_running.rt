@@ -1,41 +1,13 @@
 //! Runs of a user program.
-ghost use Rattle.std.specs.Prelude.{◌≡◌, true, false};
-ghost use Rattle.machine.specs.Sound.{sound};
-ghost use Rattle.state.specs.Status.{is_user};
+ghost use Rattle.std.specs.Prelude.{◌≡◌};
 ghost use Rattle.execution.specs.Worlds.{outcome, world};
-ghost use Rattle.machine.specs.UserRuns.{user_run_call, user_run_of};
+ghost use Rattle.machine.specs.Runs.{user_run_call};
 
 use crate::machine::Machine;
-use crate::stepping::advance;
-use answers::{Refusal, StepAnswer, UserEnding, UserRunAnswer};
+use crate::running::run_within_limit;
+use answers::{Refusal, RunAnswer};
 use memory::Memory;
-use state::State;
-
-/// The most steps that a user run may be asked for.
-const MOST_STEPS: u32 = 1_000_000;
-
-/// Makes `steps` steps in user mode, or fewer if one of them enters the system.
-fn run_user<Mem: Memory>(state: &mut State, memory: &mut Mem, steps: u32) -> UserRunAnswer
-    requires sound { sound state.old ≡ true }
-    requires running { state.old.halted ≡ false }
-    requires user { is_user state.old.system.status ≡ true }
-    ensures outcome { outcome (world state.new (Mem.marks memory.new) (Mem.bytes memory.new)) result ≡ user_run_of steps (world state.old (Mem.marks memory.old) (Mem.bytes memory.old)) }
-    ensures rest { Mem.rest memory.new ≡ Mem.rest memory.old }
-    ensures sound { sound state.new ≡ true }
-{
-    for made in 0..steps {
-        if let StepAnswer::Entered(event) = advance(state, memory) {
-            return UserRunAnswer {
-                steps: made + 1,
-                ending: UserEnding::Entered(event),
-            };
-        }
-    }
-    UserRunAnswer {
-        steps,
-        ending: UserEnding::Spent,
-    }
-}
+use translation::event::Event;
 
 impl Machine {
     /// Makes `steps` steps of a user program over a memory, or fewer if one of them enters the
@@ -44,7 +16,7 @@ impl Machine {
         &mut self,
         memory: &mut Mem,
         steps: u32,
-    ) -> Result<UserRunAnswer, Refusal>
+    ) -> Result<RunAnswer<Event>, Refusal>
         ensures outcome { outcome (world self.new.state (Mem.marks memory.new) (Mem.bytes memory.new)) result ≡ user_run_call steps (world self.old.state (Mem.marks memory.old) (Mem.bytes memory.old)) }
         ensures rest { Mem.rest memory.new ≡ Mem.rest memory.old }
     {
@@ -54,9 +26,6 @@ impl Machine {
         if !self.state.system.is_user() {
             return Err(Refusal::SystemMode);
         }
-        if steps > MOST_STEPS {
-            return Err(Refusal::TooManySteps);
-        }
-        Ok(run_user(&mut self.state, memory, steps))
+        run_within_limit(&mut self.state, memory, steps)
     }
 }
