@@ -1,11 +1,11 @@
 //! What the monitor works on: a machine and a memory that it owns.
-use faults::{LoadFault, Misplaced};
+use faults::LoadFault;
 use loading::load::{LoadRefusal, Loaded, load};
 use machine::machine::Machine;
 use memory::either::EitherMemory;
 use memory::flat::FlatMemory;
 use memory::split::SplitMemory;
-use memory::{Memory, MemoryFault};
+use memory::Memory;
 use std::alloc::Global;
 
 /// The size of the memory that a session begins with.
@@ -132,12 +132,7 @@ fn print_load(rt: &HostRuntime, answer: Result<Loaded, LoadRefusal>) -> anyhow::
             let number = fault.number();
             print!(rt; "refused {number} offset {offset} blocks {blocks}")?;
             if let LoadFault::Place(place) = fault {
-                let fault = match place.fault {
-                    Misplaced::Memory(MemoryFault::Fixed) => "fixed",
-                    Misplaced::Memory(MemoryFault::Absent) => "absent",
-                    Misplaced::Past => "past",
-                };
-                print!(rt; " fault {fault} address {}", place.address)?;
+                print!(rt; " {place}")?;
             }
             println!(rt; "")?;
         }

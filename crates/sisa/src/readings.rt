@@ -1,7 +1,8 @@
 //! The machine's answers, as text.
-use answers::{Ending, Refusal, RunAnswer, StepAnswer, UserEnding, UserRunAnswer};
+use answers::{Halt, Refusal, RunAnswer, StepAnswer};
 use machine::machine::Machine;
 use std::fmt;
+use translation::event::Event;
 
 const REGISTERS: u32 = 8;
 
@@ -19,33 +20,31 @@ impl Tell for StepAnswer {
     fn tell<W: fmt::Write>(&self, f: &mut fmt::Formatter<W>) -> fmt::Result {
         match self {
             StepAnswer::Ran => f.write_str("ran"),
-            StepAnswer::Halted => f.write_str("halted"),
-            StepAnswer::Entered(event) => write!(f, "entered {}", event.code()),
+            StepAnswer::Halted => Halt.tell(f),
+            StepAnswer::Entered(event) => event.tell(f),
         }
     }
 }
 
-/// How a run ended.
-impl Tell for RunAnswer {
+impl Tell for Halt {
     fn tell<W: fmt::Write>(&self, f: &mut fmt::Formatter<W>) -> fmt::Result {
-        match self.ending {
-            Ending::Halted => write!(f, "steps {} halted", self.steps),
-            Ending::Spent => write!(f, "steps {} spent", self.steps),
-        }
+        f.write_str("halted")
     }
 }
 
-/// How a run of a user program ended.
-impl Tell for UserRunAnswer {
+impl Tell for Event {
     fn tell<W: fmt::Write>(&self, f: &mut fmt::Formatter<W>) -> fmt::Result {
-        match self.ending {
-            UserEnding::Entered(event) => write!(
-                f,
-                "steps {} entered {}",
-                self.steps,
-                event.code()
-            ),
-            UserEnding::Spent => write!(f, "steps {} spent", self.steps),
+        write!(f, "entered {}", self.code())
+    }
+}
+
+/// How a run of either kind ended.
+impl<Stop: Tell> Tell for RunAnswer<Stop> {
+    fn tell<W: fmt::Write>(&self, f: &mut fmt::Formatter<W>) -> fmt::Result {
+        write!(f, "steps {} ", self.steps)?;
+        match &self.stop {
+            Some(stop) => stop.tell(f),
+            None => f.write_str("spent"),
         }
     }
 }
