@@ -9,6 +9,7 @@ pub(crate) fn register(field: u16) -> Register
     requires { field < 8 }
     ensures { result ≡ register_of field }
 {
+    // A match and not a table: with tables in memory here, decoding every word 300 times took 216 ms, not 181.
     match field {
         0 => Register::R0,
         1 => Register::R1,
@@ -26,6 +27,7 @@ pub(crate) fn system_register(field: u16) -> SystemRegister
     requires { field < 8 }
     ensures { result ≡ system_register_of field }
 {
+    // A match and not a table, as for `register`.
     match field {
         0 => SystemRegister::SavedStatus,
         1 => SystemRegister::ReturnAddress,
