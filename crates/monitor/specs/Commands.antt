@@ -95,12 +95,12 @@ abbrev pub verb_of : List ℕ → Option Verb
 verb_of name = named command_rows name
 
 -- a split memory: its first area is given by its size or by a file
-abbrev pub area_by : ℕ → Option ℕ → List ℕ → Said
-area_by plain (Some fixed) file = split_memory fixed plain
-area_by plain None file = split_memory_over file plain
+abbrev pub area_over : ℕ → Option ℕ → List ℕ → Said
+area_over plain (Some fixed) file = split_memory fixed plain
+area_over plain None file = split_memory_over file plain
 
 abbrev pub area_in : Parts → Option Said
-area_in words = option_map (λ plain. area_by plain (number_of words.word 4294967295) words.word) (one_number words.rest 4294967295)
+area_in words = option_map (λ plain. area_over plain (number_of words.word 4294967295) words.word) (one_number words.rest 4294967295)
 
 abbrev pub area_of : List ℕ → Option Said
 area_of line = area_in (split_of line)
@@ -147,8 +147,11 @@ abbrev pub passed_over : List ℕ → Bool
 passed_over line = is_blank line || slice_index line 0 == 35
 
 -- the command that the first word stands for, if what it takes stands behind it
-abbrev pub command_in : Parts → Option Said
-command_in words = option_and_then (λ (v : Verb). taken_of v words.rest) (verb_of words.word)
+abbrev pub command_named : Parts → Option Said
+command_named words = option_and_then (λ (v : Verb). taken_of v words.rest) (verb_of words.word)
+
+abbrev pub command_in : Parts → Said
+command_in words = unwrap_or (command_named words) unknown
 
 abbrev pub command_of : List ℕ → Said
-command_of line = if passed_over line then nothing else unwrap_or (command_in (split_of line)) unknown
+command_of line = if passed_over line then nothing else command_in (split_of line)

@@ -2,7 +2,7 @@
 ghost use Rattle.std.specs.Prelude.{◌≡◌};
 ghost use Rattle.std.specs.Option.{option_map};
 ghost use Rattle.monitor.specs.Words.{lent, split_of};
-ghost use Rattle.monitor.specs.Commands.{command_rows, memory_of, area_of, said, taken_of, is_blank, passed_over, command_in, command_of};
+ghost use Rattle.monitor.specs.Commands.{command_rows, memory_of, area_of, said, taken_of, is_blank, passed_over, command_named, command_of};
 
 use crate::arguments::{one_number, two_numbers};
 use crate::numbers::parse_number;
@@ -111,12 +111,12 @@ pub fn parse_command<'a>(line: &'a [u8]) -> Command<'a>
     if is_passed_over(line) {
         return Command::Nothing;
     }
-    command_in(line).unwrap_or(Command::Unknown)
+    command_named(line).unwrap_or(Command::Unknown)
 }
 
 /// The command that the first word of a line stands for, if what it takes stands behind it.
-fn command_in<'a>(line: &'a [u8]) -> Option<Command<'a>>
-    ensures { option_map said result ≡ command_in (split_of line.now) }
+fn command_named<'a>(line: &'a [u8]) -> Option<Command<'a>>
+    ensures { option_map said result ≡ command_named (split_of line.now) }
 {
     let words = split_word(line);
     let verb = find_named(command_rows(), words.word)?;
