@@ -2,3 +2,4 @@ pub mod Blocks
 pub mod Closing
 pub mod Loads
 pub mod Laws
+pub mod Texts

@@ -2,5 +2,6 @@
 //! each block whole or not at all.
 #![tactic(auto)]
 
+pub mod display;
 pub mod load;
 pub mod ticket;

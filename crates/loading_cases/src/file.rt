@@ -16,12 +16,13 @@ impl Blocks {
     }
 
     /// One block more, at most as long as 16 bits can say.
-    pub(crate) fn block(&mut self, address: u16, body: &[u8]) -> Result<(), AllocError> {
-        let count = u16::try_from(body.len()).unwrap_or(0);
+    pub(crate) fn block(&mut self, address: u16, body: &[u8]) -> anyhow::Result<()> {
+        let count = u16::try_from(body.len())?;
         self.bytes.extend_from_slice(&[0x53, 0x33, 1])?;
         self.bytes.extend_from_slice(&address.to_le_bytes())?;
         self.bytes.extend_from_slice(&count.to_le_bytes())?;
-        self.bytes.extend_from_slice(body)
+        self.bytes.extend_from_slice(body)?;
+        Ok(())
     }
 
     /// The file, ended with this sum.

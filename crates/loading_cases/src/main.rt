@@ -41,8 +41,8 @@ fn cut_files(rt: &HostRuntime) -> anyhow::Result<()> {
     blocks.block(0, &[1, 2])?;
     blocks.block(1023, &[3])?;
     let file = blocks.end(3)?;
-    for n in 0..file.len() + 1 {
-        over_flat(rt, "cut", 1024, &file[0..n])?;
+    for n in 0..=file.len() {
+        over_flat(rt, "cut", 1024, &file[..n])?;
     }
     Ok(())
 }
@@ -63,7 +63,7 @@ fn lengths(rt: &HostRuntime) -> anyhow::Result<()> {
     let body = [7u8; 1025];
     for n in [0usize, 1, 1024, 1025] {
         let mut blocks = Blocks::new(rt.alloc());
-        blocks.block(0, &body[0..n])?;
+        blocks.block(0, &body[..n])?;
         let file = blocks.end(n as u16)?;
         over_flat(rt, "length", 2048, file.as_slice())?;
     }
@@ -89,10 +89,10 @@ fn longest(rt: &HostRuntime) -> anyhow::Result<()> {
     let body = [9u8; 1024];
     for last in [570usize, 571] {
         let mut blocks = Blocks::new(rt.alloc());
-        for i in 0..63u16 {
-            blocks.block(i * 1024, &body)?;
+        for frame in 0..63u16 {
+            blocks.block(frame * 1024, &body)?;
         }
-        blocks.block(64512, &body[0..last])?;
+        blocks.block(64512, &body[..last])?;
         let file = blocks.end(64512 + last as u16)?;
         println!(rt; "{} bytes", file.len())?;
         over_flat(rt, "longest", 65536, file.as_slice())?;
@@ -112,8 +112,8 @@ fn full_ticket(rt: &HostRuntime) -> anyhow::Result<()> {
         sum = answer.unwrap_or(sum);
     }
     let over = ticket.put_block(&mut memory, 1024, &body);
-    let full = ticket.put_block(&mut memory, 1024, &body[0..1023]);
-    let none = ticket.put_block(&mut memory, 1024, &body[0..1]);
+    let full = ticket.put_block(&mut memory, 1024, &body[..1023]);
+    let none = ticket.put_block(&mut memory, 1024, &body[..1]);
     let closed = ticket.close(65535);
     println!(rt; "sum {sum}, then")?;
     show_put(rt, over)?;
