@@ -1,6 +1,6 @@
 //! The checks that an access meets, in their order, and the physical address that it comes to.
 ghost use Rattle.std.specs.Prelude.{◌≡◌};
-ghost use Rattle.translation.specs.Addresses.{is_misaligned, is_protected, no_entry, not_valid, physical_address, placed, protected};
+ghost use Rattle.translation.specs.Addresses.{is_misaligned, is_protected, no_entry, not_valid, physical_address, placed, protected, through};
 
 use crate::event::Event;
 use memory::Memory;
@@ -75,6 +75,30 @@ fn place(entry: PageEntry, address: u16) -> u16
     entry.physical_field.frame() as u16 * PAGE_SIZE + address % PAGE_SIZE
 }
 
+/// The physical address that an access comes to through an entry, or the first check that it fails.
+fn through<Mem: Memory>(
+    entry: PageEntry,
+    memory: &Mem,
+    address: u16,
+    access: Access,
+) -> Result<u16, Event>
+    ensures { result ≡ through access entry (Mem.marks memory.now) address }
+{
+    if !entry.physical_field.is_valid() {
+        return Err(access.not_valid());
+    }
+    if access == Access::Store && entry.physical_field.is_read_only() {
+        return Err(Event::ReadOnly);
+    }
+    let at = place(entry, address);
+    let mark = memory.mark(at);
+    match access {
+        Access::Fetch | Access::Load => mark.readable()?,
+        Access::Store => mark.writable()?,
+    }
+    Ok(at)
+}
+
 /// What a program sees of the memory: its mode, and the table that maps its pages.
 #[derive(Clone, Copy)]
 pub struct AddressSpace<'t> {
@@ -107,22 +131,8 @@ impl<'t> AddressSpace<'t> {
         if self.protects(address) {
             return Err(access.protected());
         }
-        let entry = self
-            .table
-            .lookup(Page::holding(address))
-            .ok_or(access.no_entry())?;
-        if !entry.physical_field.is_valid() {
-            return Err(access.not_valid());
-        }
-        if access == Access::Store && entry.physical_field.is_read_only() {
-            return Err(Event::ReadOnly);
-        }
-        let at = place(entry, address);
-        let mark = memory.mark(at);
-        match access {
-            Access::Fetch | Access::Load => mark.readable()?,
-            Access::Store => mark.writable()?,
-        }
-        Ok(at)
+        let page = Page::holding(address);
+        let entry = self.table.lookup(page).ok_or(access.no_entry())?;
+        through(entry, memory, address, access)
     }
 }
