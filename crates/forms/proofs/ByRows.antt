@@ -1,7 +1,8 @@
 -- What is computed of each row, at the words that belong to it, holds of each word with that form.
+use Rattle.std.specs.List.{list_all}
 use Rattle.std.proofs.Common.{◌≡◌, ℕ, ◌/◌, ◌<◌, Bool, true, false, T, Some}
 use borrow.Author.Tests.{clash}
-use Rattle.search.proofs.Rules.{all, each_all, first_each, first_passes}
+use Rattle.search.proofs.Rules.{each_all, first_each, first_passes}
 use Rattle.forms.specs.declared.FormRow.{FormRow}
 use Rattle.forms.specs.Table.{form_rows, belongs, form_of}
 use Rattle.forms.proofs.Words.{every_in, every_at}
@@ -19,7 +20,7 @@ apply false b t e = absurd (clash e)
 abbrev pub row_passes : (FormRow → ℕ → Bool) → FormRow → Bool
 row_passes test row = every_in (λ (word : ℕ). implies (belongs word row) (test row word)) 12 (row.value / 4096)
 
-pub by_rows : (test : FormRow → ℕ → Bool) → T (all (row_passes test) form_rows)
+pub by_rows : (test : FormRow → ℕ → Bool) → T (list_all (row_passes test) form_rows)
     → (word : ℕ) → word < 65536 → (row : FormRow) → form_of word ≡ Some row → T (test row word)
 by_rows test t word h row e =
     let b = first_passes (belongs word) form_rows row e in

@@ -1,10 +1,10 @@
 -- How many words have a form: counted over the sixteen blocks of words with the same upper four bits, at the few rows that
 -- such words can belong to.
+use Rattle.std.specs.List.{find, list_all}
 use Rattle.std.proofs.Common.{◌≡◌, ℕ, zero, suc, ◌+◌, ◌*◌, ◌/◌, ◌%◌, ◌^◌, ◌<◌, ◌≤◌, Bool, true, false, cond, T, eqb, List, [], ◌∷◌, is_some, Some, Option, sym, refl, ap, ◌∙◌, subst, arith, eqb→eq, eq-eqb, eqb-true}
 use borrow.Author.Tests.{clash}
 use lib.Bits.{bit_and, and_shr, and_mask}
-use Rattle.search.specs.First.{first_match}
-use Rattle.search.proofs.Rules.{all, and_left, and_right}
+use Rattle.search.proofs.Rules.{and_left, and_right}
 use Rattle.forms.specs.declared.FormRow.{FormRow}
 use Rattle.forms.specs.Table.{form_rows, belongs, count_below, legal_words}
 use Rattle.forms.proofs.Words.{count_in, count_same, count_block}
@@ -13,7 +13,7 @@ use Rattle.forms.proofs.Words.{count_in, count_same, count_block}
 abbrev pub fixes_upper : FormRow → Bool
 fixes_upper row = eqb (row.mask / 4096) 15
 
-pub rows_fix_upper : T (all fixes_upper form_rows)
+pub rows_fix_upper : T (list_all fixes_upper form_rows)
 rows_fix_upper = tt
 
 -- so a word that belongs to a row has the row's upper four bits
@@ -30,23 +30,23 @@ abbrev rows_in : ℕ → List FormRow → List FormRow
 rows_in q [] = []
 rows_in q (row ∷ rows) = cond (eqb (row.value / 4096) q) (row ∷ rows_in q rows) (rows_in q rows)
 
-found_in : (word q : ℕ) (rows : List FormRow) → word < 65536 → word / 4096 ≡ q → T (all fixes_upper rows)
-    → first_match (belongs word) rows ≡ first_match (belongs word) (rows_in q rows)
+found_in : (word q : ℕ) (rows : List FormRow) → word < 65536 → word / 4096 ≡ q → T (list_all fixes_upper rows)
+    → find (belongs word) rows ≡ find (belongs word) (rows_in q rows)
 found_in word q [] h e t = refl
 found_in word q (row ∷ rows) h e t =
-    go (eqb (row.value / 4096) q) refl (belongs word row) refl (found_in word q rows h e (and_right (fixes_upper row) (all fixes_upper rows) t))
+    go (eqb (row.value / 4096) q) refl (belongs word row) refl (found_in word q rows h e (and_right (fixes_upper row) (list_all fixes_upper rows) t))
   where
     go : (u : Bool) → eqb (row.value / 4096) q ≡ u → (b : Bool) → belongs word row ≡ b
-        → first_match (belongs word) rows ≡ first_match (belongs word) (rows_in q rows)
-        → first_match (belongs word) (row ∷ rows) ≡ first_match (belongs word) (cond u (row ∷ rows_in q rows) (rows_in q rows))
+        → find (belongs word) rows ≡ find (belongs word) (rows_in q rows)
+        → find (belongs word) (row ∷ rows) ≡ find (belongs word) (cond u (row ∷ rows_in q rows) (rows_in q rows))
     go true p b s rest = ap (λ (o : Option FormRow). cond (belongs word row) (Some row) o) rest
     go false p true s rest =
-        let u = same_upper word row h (and_left (fixes_upper row) (all fixes_upper rows) t) s in
+        let u = same_upper word row h (and_left (fixes_upper row) (list_all fixes_upper rows) t) s in
         absurd (clash (sym p ∙ eq-eqb (row.value / 4096) q (sym u ∙ e)))
-    go false p false s rest = ap (λ (c : Bool). cond c (Some row) (first_match (belongs word) rows)) s ∙ rest
+    go false p false s rest = ap (λ (c : Bool). cond c (Some row) (find (belongs word) rows)) s ∙ rest
 
 abbrev legal : List FormRow → ℕ → Bool
-legal rows word = is_some (first_match (belongs word) rows)
+legal rows word = is_some (find (belongs word) rows)
 
 abbrev sum_blocks : ℕ → ℕ
 sum_blocks zero = 0

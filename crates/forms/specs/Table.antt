@@ -1,8 +1,8 @@
 -- The forms of instruction words, each by the picture of its sixteen bits, bit 15 first. A 0 or a 1 has to stand so in
 -- every word of the form; d, a and b are register numbers, and n is a number.
+use Rattle.std.specs.List.{find}
 use Rattle.std.specs.Prelude.{◌≡◌, ℕ, zero, suc, ◌+◌, ◌*◌, ◌<◌, Bool, true, cond, List, [], ◌∷◌, length, is_some, codes, Option, ◌==◌, bit_and, slice_index_or}
 use Prim.Native.String.{String}
-use Rattle.search.specs.First.{first_match}
 use Rattle.forms.specs.declared.Form.{Form}
 use Rattle.forms.specs.declared.Form.TheVariants as form
 use Rattle.forms.specs.declared.FormRow.{FormRow}
@@ -77,7 +77,7 @@ belongs word row = bit_and word row.mask == row.value
 
 -- the form of a word
 abbrev pub form_of : ℕ → Option FormRow
-form_of word = first_match (belongs word) form_rows
+form_of word = find (belongs word) form_rows
 
 -- the place of a form in the table
 abbrev pub form_number : Form → ℕ
@@ -142,4 +142,4 @@ count_below test (suc n) = count_below test n + cond (test n) 1 0
 
 -- how many words have a form
 abbrev pub legal_words : List FormRow → ℕ
-legal_words rows = count_below (λ (word : ℕ). is_some (first_match (belongs word) rows)) 65536
+legal_words rows = count_below (λ (word : ℕ). is_some (find (belongs word) rows)) 65536

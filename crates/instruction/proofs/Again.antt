@@ -1,7 +1,7 @@
 -- What a word says, said again, is that word: computed row by row.
+use Rattle.std.specs.List.{list_all}
 use Rattle.std.proofs.Common.{◌≡◌, ℕ, ◌<◌, Bool, T, eqb, Some, None, Option, refl, sym, subst, eqb→eq}
 use Rattle.std.specs.Option.{option_map}
-use Rattle.search.proofs.Rules.{all}
 use Rattle.forms.specs.declared.FormRow.{FormRow}
 use Rattle.forms.specs.Table.{form_rows, form_of}
 use Rattle.forms.proofs.ByRows.{row_passes, by_rows}
@@ -12,7 +12,7 @@ use Rattle.instruction.specs.Encode.{word_of, SaidAgain}
 unfoldable again : FormRow → ℕ → Bool
 again row word = eqb (word_of (instruction_of row.form word)) word
 
-all_again : T (all (row_passes again) form_rows)
+all_again : T (list_all (row_passes again) form_rows)
 unfolding again
 all_again = tt
 

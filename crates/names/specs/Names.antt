@@ -1,9 +1,8 @@
 -- A name is its letters, filled up to eight with blanks (32).
 use Rattle.std.specs.Prelude.{ℕ, ◌-◌, cond, List, ◌++◌, length, replicate, Some, None, Option, ◌==◌, nat_lt}
 use Rattle.std.specs.Option.{option_map}
-use Rattle.std.specs.List.{before_first}
+use Rattle.std.specs.List.{before_first, find}
 use Rattle.std.specs.Str.{bytes_eq}
-use Rattle.search.specs.First.{first_match}
 use Rattle.names.specs.declared.Name.{Name}
 use Rattle.names.specs.declared.Named.{Named}
 
@@ -15,7 +14,7 @@ name_of word = cond (nat_lt 8 (length word)) None (Some (filled word))
 
 -- the first row with a name
 abbrev pub row_of : {T : Type 0} → List (Named T) → Option Name → Option (Named T)
-row_of {T} rows (Some name) = first_match (λ (r : Named T). bytes_eq r.name.letters name.letters) rows
+row_of {T} rows (Some name) = find (λ (r : Named T). bytes_eq r.name.letters name.letters) rows
 row_of {T} rows None = None
 
 -- what the first row of a word has

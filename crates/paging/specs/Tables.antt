@@ -1,7 +1,6 @@
 -- A page table is a list of 64 entries.
 use Rattle.std.specs.Prelude.{ℕ, ◌+◌, ◌/◌, ◌%◌, Bool, ◌&&◌, List, map, Option, ◌==◌, slice_index_or, slice_set}
-use Rattle.std.specs.List.{range_with_len}
-use Rattle.search.specs.First.{first_match}
+use Rattle.std.specs.List.{range_with_len, find}
 use Rattle.paging.specs.declared.VirtualField.{VirtualField}
 use Rattle.paging.specs.declared.PhysicalField.{PhysicalField}
 use Rattle.paging.specs.declared.PageEntry.{PageEntry}
@@ -40,7 +39,7 @@ is_for page e = is_used e.virtual_field && page_of e.virtual_field == page
 
 -- The entry that counts for a page is the first one for it, valid or not.
 abbrev pub lookup_of : List PageEntry → ℕ → Option PageEntry
-lookup_of entries page = first_match (is_for page) entries
+lookup_of entries page = find (is_for page) entries
 
 -- At the start each page is the frame of the same number, by an entry that is in use and valid.
 abbrev pub start_entry : ℕ → PageEntry

@@ -1,6 +1,5 @@
 //! What the monitor works on: a machine and a memory that it owns.
-use faults::LoadFault;
-use loading::load::{LoadRefusal, Loaded, load};
+use loading::load::load;
 use machine::machine::Machine;
 use memory::either::EitherMemory;
 use memory::flat::FlatMemory;
@@ -86,7 +85,11 @@ impl Bench {
 
     /// Loads a file, and prints what came of it.
     pub fn load(&mut self, rt: &HostRuntime, file: &[u8]) -> anyhow::Result<()> {
-        print_load(rt, load(&mut self.store.memory(), file))
+        match load(&mut self.store.memory(), file) {
+            Ok(loaded) => println!(rt; "{loaded}")?,
+            Err(refusal) => println!(rt; "{refusal}")?,
+        }
+        Ok(())
     }
 
     /// Prints bytes from a physical address on, and `--` where there is none.
@@ -116,26 +119,5 @@ impl Bench {
 
 fn no_memory(rt: &HostRuntime) -> anyhow::Result<()> {
     println!(rt; "no memory")?;
-    Ok(())
-}
-
-fn print_load(rt: &HostRuntime, answer: Result<Loaded, LoadRefusal>) -> anyhow::Result<()> {
-    match answer {
-        Ok(Loaded { blocks, sum }) => println!(rt; "loaded {blocks} {sum}")?,
-        Err(
-            LoadRefusal {
-                fault,
-                offset,
-                blocks,
-            },
-        ) => {
-            let number = fault.number();
-            print!(rt; "refused {number} offset {offset} blocks {blocks}")?;
-            if let LoadFault::Place(place) = fault {
-                print!(rt; " {place}")?;
-            }
-            println!(rt; "")?;
-        }
-    }
     Ok(())
 }

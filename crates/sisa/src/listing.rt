@@ -1,9 +1,7 @@
 //! Listing a load file, record by record.
 use crate::session::print_text;
+use faults::CloseFault;
 use records::reader::{Reader, Record};
-
-/// The number of the refusal of an end record whose sum is not that of the blocks before it.
-const WRONG_SUM: u8 = 15;
 
 /// Prints what each record of a file says, up to the end or to the first bad record.
 pub fn list(rt: &HostRuntime, file: &[u8]) -> anyhow::Result<()> {
@@ -15,6 +13,7 @@ pub fn list(rt: &HostRuntime, file: &[u8]) -> anyhow::Result<()> {
 
 fn list_records(rt: &HostRuntime, reader: &mut Reader<'_>, length: usize) -> anyhow::Result<()> {
     let mut total: usize = 0;
+    // The bound shows that the loop ends: a file has fewer records than bytes.
     for _ in 0..=length {
         let offset = reader.position();
         match reader.next_record() {
@@ -24,7 +23,7 @@ fn list_records(rt: &HostRuntime, reader: &mut Reader<'_>, length: usize) -> any
             }
             Ok(Record::End { sum }) => {
                 if total != usize::from(sum) {
-                    return refused(rt, WRONG_SUM, offset);
+                    return refused(rt, CloseFault.number(), offset);
                 }
                 println!(rt; "end {sum}")?;
                 return Ok(());

@@ -110,6 +110,7 @@ pub fn pair(rt: &HostRuntime, bench: &mut Bench, script: &[u8]) -> anyhow::Resul
 fn calls_of(heap: Global, script: &[u8]) -> Result<Option<Vec<Call>>, AllocError> {
     let mut calls = Vec::new(heap);
     let mut rest = Some(script);
+    // The bound shows that the loop ends: a text has at most one line more than it has bytes.
     for _ in 0..=script.len() {
         let Some(lines) = rest else {
             break;

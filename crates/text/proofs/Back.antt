@@ -1,7 +1,8 @@
 -- Every text is short, and the word of each word's text is that word: computed row by row, at the words of each row.
+use Rattle.std.specs.List.{list_all}
 use Rattle.std.proofs.Common.{◌≡◌, ℕ, ◌/◌, ◌%◌, ◌<◌, ◌≤◌, Bool, ◌&&◌, T, eqb, leb, List, [], ◌∷◌, map, length, take, Some, None, Option, refl, ap, ◌∙◌, arith, lit≤, eqb→eq, leb→le}
 use Rattle.std.proofs.lemmas.List.{take_all}
-use Rattle.search.proofs.Rules.{all, and_left, and_right, each_same, first_each}
+use Rattle.search.proofs.Rules.{and_left, and_right, each_same, first_each}
 use Rattle.forms.specs.declared.FormRow.{FormRow}
 use Rattle.forms.specs.Table.{form_rows, form_of, belongs}
 use Rattle.forms.proofs.ByRows.{row_passes, by_rows}
@@ -20,7 +21,7 @@ found row word = eqb (candidate_by (form_text word row.form) (Some (syntax_of ro
 unfoldable right : FormRow → ℕ → Bool
 right row word = short row word && found row word
 
-all_right : T (all (row_passes right) form_rows)
+all_right : T (list_all (row_passes right) form_rows)
 unfolding right
 all_right = tt
 
