@@ -16,6 +16,8 @@ const PAGES: u8 = 64;
 
 const USED: u8 = 64;
 
+const VIRTUAL_VALUES: u8 = 128;
+
 const FRAMES: u8 = 64;
 
 const READ_ONLY: u8 = 64;
@@ -150,8 +152,11 @@ impl Entry for PageEntry {
 
     ghost matched = { λ e page. is_for page.number e };
 
+    // One comparison of the seven bits says that the entry is used and has the page: a look-up asks
+    // it of up to 64 entries.
     fn matches(&self, page: Page) -> bool {
-        self.virtual_field.is_used() && self.virtual_field.page() == page.number
+        u16::from(self.virtual_field.bits % VIRTUAL_VALUES)
+            == u16::from(USED) + u16::from(page.number)
     }
 }
 
