@@ -1,10 +1,10 @@
 //! What the monitor works on: a machine and a memory that it owns.
 use loading::load::load;
 use machine::machine::Machine;
+use memory::Memory;
 use memory::either::EitherMemory;
 use memory::flat::FlatMemory;
 use memory::split::SplitMemory;
-use memory::Memory;
 use std::alloc::Global;
 
 /// The size of the memory that a session begins with.
