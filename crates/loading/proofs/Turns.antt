@@ -11,7 +11,7 @@ put_position : (bytes : ℕ → ℕ) (p s a : ℕ) (body : List ℕ) (y : Result
 put_position bytes p s a body (Ok new) = refl
 put_position bytes p s a body (Err e) = refl
 
--- a block that is put moves the reader on, within the file
+-- a block that is put moves the reader on
 pub put_moves : (marks : ℕ → Mark) (bytes : ℕ → ℕ) (f : List ℕ) (p s : ℕ) {s' p' : ℕ} {bytes' : ℕ → ℕ}
     → turn (Ok None) s' bytes' p' ≡ turn_of marks bytes f p s → p < p'
 put_moves marks bytes f p s {s' = s'} {p' = p'} {bytes' = bytes'} h = go (record_of f p) h
