@@ -41,6 +41,7 @@ pub enum Answer {
     Value(Result<u16, Refusal>),
 }
 
+// A match over values: the calls of a list are compared and told, as closures could not be.
 /// Makes one call of a machine over a memory.
 pub fn make_call<Mem: Memory>(machine: &mut Machine, memory: &mut Mem, call: Call) -> Answer
     ensures outcome { outcome (world machine.new.state (Mem.marks memory.new) (Mem.bytes memory.new)) result ≡ call_of call (world machine.old.state (Mem.marks memory.old) (Mem.bytes memory.old)) }

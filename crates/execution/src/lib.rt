@@ -28,6 +28,7 @@ fn raise(event: Event, detail: u16) -> Result<Progress, Raised>
     Err(Raised { event, detail })
 }
 
+// A match over the instructions, with a guard for the mode: a rule of the project.
 /// Does what an instruction says. One that raises an event leaves state and memory alone.
 pub fn execute<Mem: Memory>(
     state: &mut State,

@@ -76,6 +76,8 @@ pub trait Memory {
     fn read(&self, address: u16) -> Result<u8, MemoryFault>
         ensures { result ≡ read_of (marks self.now) (bytes self.now) address };
 
+    // That marks and rest stay is two clauses, here and wherever a memory is written: one word for
+    // both would take the four members as its arguments.
     /// Writes `byte` at `address` if its frame is plain; else answers the frame's mark as the
     /// fault and changes nothing.
     fn write(&mut self, address: u16, byte: u8) -> Result<(), MemoryFault>

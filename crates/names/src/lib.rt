@@ -10,6 +10,8 @@ use search::{Entry, first_match};
 /// The most letters that a name can have.
 pub const LONGEST: usize = 8;
 
+// Eight letters and no slice: the key of an entry is an associated type, by a rule of the project,
+// and one that borrows would need a parameter, which such a type cannot have.
 /// A name of at most eight letters, filled up with blanks.
 #[derive(Clone, Copy, PartialEq, Eq, Debug)]
 pub struct Name {

@@ -4,6 +4,7 @@ ghost use Rattle.oneframe.specs.OneFrame.{one_marks, one_bytes, one_rest};
 use crate::OneFrame;
 use memory::{FRAME_SIZE, Mark, Memory, MemoryFault};
 
+// Written out whole, as a maker writes a memory: it shares the trait with the others, and no buffer.
 impl Memory for OneFrame {
     ghost marks = { λ memory. one_marks };
 

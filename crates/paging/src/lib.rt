@@ -183,6 +183,7 @@ impl PageTable {
         first_match(&self.entries, page)
     }
 
+    // Two methods of one line: one for both would take the field's kind besides.
     /// Entry `index` modulo 64 takes `word` as its virtual field.
     pub fn set_virtual(&mut self, index: u16, word: u16)
         ensures { self.new.entries ≡ virtual_set self.old.entries index word }

@@ -16,6 +16,7 @@ pub enum Progress {
 const INTERRUPTS: u16 = 2;
 
 impl State {
+    // A match over the instructions of system mode: a rule of the project.
     /// Does what a privileged instruction says.
     pub fn control(&mut self, privileged: &Privileged) -> Progress
         ensures state { self.new ≡ controlled privileged.now self.old }

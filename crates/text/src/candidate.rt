@@ -128,6 +128,7 @@ fn hex_at(text: &[u8], i: usize) -> u16
     ensures value { result ≡ hex_at text.now i }
     ensures bound { result < 16 }
 {
+    // Not `to_digit`: whether it is a digit is seen when the text of the word is compared.
     let c = byte(text, i) as u16;
     if c < 58 { c % 16 } else { (c + 9) % 16 }
 }

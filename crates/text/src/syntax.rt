@@ -50,7 +50,7 @@ pub enum Operands {
 }
 
 /// A form and its operands, which a mnemonic names.
-#[derive(Clone, Copy)]
+#[derive(Clone, Copy, PartialEq, Eq, Debug)]
 pub struct Syntax {
     pub operands: Operands,
     pub form: Form,

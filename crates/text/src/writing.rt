@@ -138,6 +138,7 @@ fn digit(n: u16) -> u8
 fn hex_digit(n: u16) -> u8
     ensures { result ≡ hex_digit (n % 16) }
 {
+    // Not `char::from_digit`, which gives small letters.
     let n = n % 16;
     if n < 10 {
         b'0' + n as u8

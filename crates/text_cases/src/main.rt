@@ -5,7 +5,7 @@ use forms::form_of;
 use text::{LINE, read_text, write_text};
 
 /// A word and its text.
-#[derive(Clone, Copy)]
+#[derive(Clone, Copy, PartialEq, Eq, Debug)]
 struct Sample {
     word: u16,
     text: &'static [u8],

@@ -100,7 +100,7 @@ fn through<Mem: Memory>(
 }
 
 /// What a program sees of the memory: its mode, and the table that maps its pages.
-#[derive(Clone, Copy)]
+#[derive(Clone, Copy, PartialEq, Eq, Debug)]
 pub struct AddressSpace<'t> {
     pub user: bool,
     pub table: &'t PageTable,
