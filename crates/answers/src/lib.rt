@@ -10,17 +10,17 @@ use translation::event::Event;
 #[derive(Clone, Copy, PartialEq, Eq, Debug)]
 pub enum Refusal {
     /// The machine is halted.
-    Halted,
+    Halted = 1,
     /// There is no line above 7.
-    NoSuchLine,
+    NoSuchLine = 2,
     /// There is no port above 255.
-    NoSuchPort,
+    NoSuchPort = 3,
     /// There is no register above 7.
-    NoSuchRegister,
+    NoSuchRegister = 4,
     /// More steps are asked for than a run may make.
-    TooManySteps,
+    TooManySteps = 5,
     /// The machine is in system mode, where no user program runs.
-    SystemMode,
+    SystemMode = 6,
 }
 
 impl Refusal {
@@ -28,14 +28,7 @@ impl Refusal {
     pub fn number(self) -> u8
         ensures { result ≡ refusal_number self }
     {
-        match self {
-            Refusal::Halted => 1,
-            Refusal::NoSuchLine => 2,
-            Refusal::NoSuchPort => 3,
-            Refusal::NoSuchRegister => 4,
-            Refusal::TooManySteps => 5,
-            Refusal::SystemMode => 6,
-        }
+        self as u8
     }
 }
 

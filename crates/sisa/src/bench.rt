@@ -101,8 +101,8 @@ impl Bench {
     ) -> anyhow::Result<()> {
         let memory = self.store.memory();
         let mut before = "";
-        for i in 0..count {
-            let byte = match u16::try_from(address.saturating_add(i)) {
+        for at in (0..count).map(|i| address.saturating_add(i)) {
+            let byte = match u16::try_from(at) {
                 Ok(at) => memory.read(at).ok(),
                 Err(_) => None,
             };

@@ -21,6 +21,7 @@ pub fn session<R: BufRead + Drop>(
     Ok(())
 }
 
+// A match, here and for the machine: a table of functions would hand out function pointers.
 /// Answers one command.
 fn answer(rt: &HostRuntime, bench: &mut Bench, command: Command<'_>) -> anyhow::Result<()> {
     match command {

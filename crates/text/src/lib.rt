@@ -20,9 +20,9 @@ pub const LINE: usize = 24;
 #[derive(Clone, Copy, PartialEq, Eq, Debug)]
 pub enum TextRefusal {
     /// It is the text of no word.
-    NoWord,
+    NoWord = 20,
     /// The buffer has fewer than 24 bytes.
-    ShortBuffer,
+    ShortBuffer = 21,
 }
 
 impl TextRefusal {
@@ -30,9 +30,6 @@ impl TextRefusal {
     pub fn number(self) -> u8
         ensures { result ≡ refusal_number self }
     {
-        match self {
-            TextRefusal::NoWord => 20,
-            TextRefusal::ShortBuffer => 21,
-        }
+        self as u8
     }
 }
