@@ -1,6 +1,6 @@
 -- One turn of a comparison.
-use Rattle.std.proofs.Common.{◌≡◌, ℕ, zero, suc, ◌+◌, ◌<◌, ◌≤◌, min, Bool, true, false, cond, ◌||◌, List, [], ◌∷◌, ◌++◌, length, get_or, take, drop, set, None, Option, sym, refl, ap, ◌∙◌, arith}
-use Rattle.std.proofs.lemmas.List.{append_assoc, drop_all, drop_more, drop-set-lt, take-append-drop, take_more_set}
+use Rattle.std.proofs.Common.{◌≡◌, ℕ, ◌+◌, ◌<◌, min, Bool, true, false, cond, ◌||◌, List, [], ◌∷◌, ◌++◌, length, get_or, take, drop, set, None, Option, sym, refl, ap, ◌∙◌, arith}
+use Rattle.std.proofs.lemmas.List.{append_assoc, drop_more, drop-set-lt, length-drop, take-append-drop, take_more_set}
 use Rattle.std.proofs.lemmas.Bool.{cond-false, cond-true}
 use Rattle.translation.specs.declared.event.Event.{Event}
 use Rattle.execution.specs.Worlds.{Outcome, World, outcome}
@@ -8,7 +8,7 @@ use Rattle.calls.specs.declared.Answer.{Answer}
 use Rattle.calls.specs.declared.Call.{Call}
 use Rattle.calls.specs.Calls.{call_of, enters, entry_of, is_event}
 use Rattle.comparing.specs.declared.exchange.Exchange.{Exchange}
-use Rattle.comparing.specs.Comparisons.{Compared, compare_of, compared, compared_on, comparison, exchange, one_more}
+use Rattle.comparing.specs.Comparisons.{Compared, compare_of, compared, compared_on, comparison, one_more}
 
 -- a comparison, after so many calls whose answers are in the slots before it
 abbrev pub after : ℕ → List Exchange → Compared → Compared
@@ -24,12 +24,14 @@ begins cs slots a b =
     let k : o.answer.calls + 0 ≡ o.answer.calls = omega arith in
     ap (λ (n : ℕ). compared o.ours o.theirs o.exchanges (comparison n o.answer.ours o.answer.theirs)) k
 
-one_call : (cs : List Call) (slots : List Exchange) (made : ℕ) (c : Call) (e : Exchange) (a b : World) → made < length cs → made < length slots
-    → compare_of (drop made cs) (drop made slots) a b ≡ compared_on (call_of (get_or cs made c) a) (call_of (get_or cs made c) b) (drop (made + 1) slots) (compare_of (drop (made + 1) cs) (drop (made + 1) slots))
+-- c is the call after those that were made, and d any other
+one_call : (cs : List Call) (slots : List Exchange) (made : ℕ) (c d : Call) (e : Exchange) (a b : World) → made < length cs → made < length slots → c ≡ get_or cs made d
+    → compare_of (drop made cs) (drop made slots) a b ≡ compared_on (call_of c a) (call_of c b) (drop (made + 1) slots) (compare_of (drop (made + 1) cs) (drop (made + 1) slots))
 unfolding compare_of
-one_call cs slots made c e a b h k =
-    ap (λ (l : List Call). compare_of l (drop made slots) a b) (drop_more cs made c h)
-    ∙ ap (λ (l : List Exchange). compare_of (get_or cs made c ∷ drop (made + 1) cs) l a b) (drop_more slots made e k)
+one_call cs slots made c d e a b h k s =
+    ap (λ (l : List Call). compare_of l (drop made slots) a b) (drop_more cs made d h)
+    ∙ (ap (λ (x : Call). compare_of (x ∷ drop (made + 1) cs) (drop made slots) a b) (sym s)
+    ∙ ap (λ (l : List Exchange). compare_of (c ∷ drop (made + 1) cs) l a b) (drop_more slots made e k))
 
 -- the answers of a call go into its slot
 written_on : (slots : List Exchange) (made : ℕ) (e : Exchange) (o : Compared) → made < length slots
@@ -42,21 +44,21 @@ written_on slots made e o h =
     ∙ ap (λ (k : ℕ). compared o.ours o.theirs (take (made + 1) (set slots made e) ++ o.exchanges) (comparison k o.answer.ours o.answer.theirs)) n
 
 -- a call's turn
-pub turn : (cs : List Call) (slots : List Exchange) (made : ℕ) (c : Call) (a b a' b' : World) (e : Exchange) → made < length cs → made < length slots
-    → outcome a' e.ours ≡ call_of (get_or cs made c) a → outcome b' e.theirs ≡ call_of (get_or cs made c) b
+pub turn : (cs : List Call) (slots : List Exchange) (made : ℕ) (c d : Call) (a b a' b' : World) (e : Exchange) → made < length cs → made < length slots → c ≡ get_or cs made d
+    → outcome a' e.ours ≡ call_of c a → outcome b' e.theirs ≡ call_of c b
     → remaining made cs slots a b
     ≡ after (made + 1) (take (made + 1) (set slots made e))
     (cond (enters e.ours || enters e.theirs)
     (compared a' b' (drop (made + 1) (set slots made e)) (comparison 0 (entry_of e.ours) (entry_of e.theirs)))
     (compare_of (drop (made + 1) cs) (drop (made + 1) (set slots made e)) a' b'))
-turn cs slots made c a b a' b' e h k p q =
+turn cs slots made c d a b a' b' e h k s p q =
     let others = compare_of (drop (made + 1) cs) in
     let x = outcome a' e.ours in
     let y = outcome b' e.theirs in
     let left : drop (made + 1) slots ≡ drop (made + 1) (set slots made e) = sym (drop-set-lt (made + 1) slots made e (omega arith)) in
     ap (after made (take made slots))
-    (one_call cs slots made c e a b h k
-    ∙ (ap (λ (o : Outcome Answer). compared_on o (call_of (get_or cs made c) b) (drop (made + 1) slots) (others (drop (made + 1) slots))) (sym p)
+    (one_call cs slots made c d e a b h k s
+    ∙ (ap (λ (o : Outcome Answer). compared_on o (call_of c b) (drop (made + 1) slots) (others (drop (made + 1) slots))) (sym p)
     ∙ (ap (λ (o : Outcome Answer). compared_on x o (drop (made + 1) slots) (others (drop (made + 1) slots))) (sym q)
     ∙ ap (λ (s : List Exchange). compared_on x y s (others s)) left)))
     ∙ written_on slots made e
@@ -69,51 +71,43 @@ either : (e : Exchange) (x y : Option Event) (t : Bool) → x ≡ entry_of e.our
 either e x y t p q h = ap (λ (z : Option Event). is_event z || enters e.theirs) (sym p) ∙ (ap (λ (z : Option Event). is_event x || is_event z) (sym q) ∙ h)
 
 -- neither entered: the comparison goes on
-pub goes_on : (cs : List Call) (slots : List Exchange) (made : ℕ) (c : Call) (a b : World) {a' b' : World} {e : Exchange} {x y : Option Event} {whole : Compared} → made < length cs → made < length slots
-    → outcome a' e.ours ≡ call_of (get_or cs made c) a → outcome b' e.theirs ≡ call_of (get_or cs made c) b
+pub goes_on : (cs : List Call) (slots : List Exchange) (made : ℕ) (c d : Call) (a b : World) {a' b' : World} {e : Exchange} {x y : Option Event} {whole : Compared} → made < length cs → made < length slots → c ≡ get_or cs made d
+    → outcome a' e.ours ≡ call_of c a → outcome b' e.theirs ≡ call_of c b
     → x ≡ entry_of e.ours → y ≡ entry_of e.theirs → is_event x || is_event y ≡ false
     → remaining made cs slots a b ≡ whole → remaining (made + 1) cs (set slots made e) a' b' ≡ whole
-goes_on cs slots made c a b {a'} {b'} {e} {x} {y} h k p q px py n i =
+goes_on cs slots made c d a b {a'} {b'} {e} {x} {y} h k s p q px py n i =
     ap (after (made + 1) (take (made + 1) (set slots made e))) (sym (cond-false (enters e.ours || enters e.theirs) _ _ (either e x y false px py n)))
-    ∙ (sym (turn cs slots made c a b a' b' e h k p q) ∙ i)
+    ∙ (sym (turn cs slots made c d a b a' b' e h k s p q) ∙ i)
 
 -- one entered: the comparison ends with this call
-pub ends : (cs : List Call) (slots : List Exchange) (made : ℕ) (c : Call) (a b : World) {a' b' : World} {e : Exchange} {x y : Option Event} {whole : Compared} → made < length cs → made < length slots
-    → outcome a' e.ours ≡ call_of (get_or cs made c) a → outcome b' e.theirs ≡ call_of (get_or cs made c) b
+pub ends : (cs : List Call) (slots : List Exchange) (made : ℕ) (c d : Call) (a b : World) {a' b' : World} {e : Exchange} {x y : Option Event} {whole : Compared} → made < length cs → made < length slots → c ≡ get_or cs made d
+    → outcome a' e.ours ≡ call_of c a → outcome b' e.theirs ≡ call_of c b
     → x ≡ entry_of e.ours → y ≡ entry_of e.theirs → is_event x || is_event y ≡ true
     → remaining made cs slots a b ≡ whole → compared a' b' (set slots made e) (comparison (made + 1) x y) ≡ whole
-ends cs slots made c a b {a'} {b'} {e} {x} {y} h k p q px py n i =
+ends cs slots made c d a b {a'} {b'} {e} {x} {y} h k s p q px py n i =
     let count : 0 + (made + 1) ≡ made + 1 = omega arith in
     let r = λ (z u : Option Event). compared a' b' (set slots made e) (comparison (made + 1) z u) in
-    sym (turn cs slots made c a b a' b' e h k p q
+    sym (turn cs slots made c d a b a' b' e h k s p q
     ∙ (ap (after (made + 1) (take (made + 1) (set slots made e))) (cond-true (enters e.ours || enters e.theirs) _ _ (either e x y true px py n))
     ∙ (ap (λ (s : List Exchange). compared a' b' s (comparison (0 + (made + 1)) (entry_of e.ours) (entry_of e.theirs))) (take-append-drop (made + 1) (set slots made e))
     ∙ (ap (λ (m : ℕ). compared a' b' (set slots made e) (comparison m (entry_of e.ours) (entry_of e.theirs))) count
     ∙ (ap (λ (z : Option Event). r z (entry_of e.theirs)) (sym px) ∙ ap (r x) (sym py))))))
     ∙ i
 
--- no call is left
-pub over : (cs : List Call) (slots : List Exchange) (made most : ℕ) (a b : World) {whole : Compared} → length cs ≤ made → made ≡ most
-    → remaining made cs slots a b ≡ whole → compared a b slots (comparison most None None) ≡ whole
+-- with no call left, or no slot, nothing is compared
+none_left : (cs : List Call) (slots : List Exchange) (a b : World) → min (length cs) (length slots) ≡ 0 → compare_of cs slots a b ≡ compared a b slots (comparison 0 None None)
 unfolding compare_of
-over cs slots made most a b h e i =
+none_left [] slots a b h = refl
+none_left (c ∷ cs) [] a b h = refl
+none_left (c ∷ cs) (e ∷ slots) a b h = absurd (omega arith)
+
+-- and the comparison ends with the calls that were made
+pub over : (cs : List Call) (slots slots' : List Exchange) (made most : ℕ) (a b : World) {whole : Compared} → slots' ≡ slots → made ≡ most → made ≡ min (length cs) (length slots)
+    → remaining made cs slots a b ≡ whole → compared a b slots' (comparison most None None) ≡ whole
+over cs slots slots' made most a b p q h i =
     let count : 0 + made ≡ most = omega arith in
-    sym (ap (λ (l : List Call). after made (take made slots) (compare_of l (drop made slots) a b)) (drop_all made cs h)
+    ap (λ (s : List Exchange). compared a b s (comparison most None None)) p
+    ∙ (sym (ap (after made (take made slots)) (none_left (drop made cs) (drop made slots) a b (omega (arith, length-drop made cs, length-drop made slots)))
     ∙ (ap (λ (s : List Exchange). compared a b s (comparison (0 + made) None None)) (take-append-drop made slots)
     ∙ ap (λ (m : ℕ). compared a b slots (comparison m None None)) count))
-    ∙ i
-
--- calls for which there is no slot change nothing
-pub taken : (n : ℕ) (cs : List Call) (slots : List Exchange) (a b : World) → n ≡ min (length cs) (length slots) → compare_of (take n cs) slots a b ≡ compare_of cs slots a b
-unfolding compare_of
-taken zero [] slots a b h = refl
-taken (suc n) [] slots a b h = refl
-taken zero (c ∷ cs) [] a b h = refl
-taken (suc n) (c ∷ cs) [] a b h = refl
-taken zero (c ∷ cs) (e ∷ slots) a b h = absurd (omega arith)
-taken (suc n) (c ∷ cs) (e ∷ slots) a b h =
-    let x = call_of c a in
-    let y = call_of c b in
-    let ends = compared x.after y.after slots (comparison 0 (entry_of x.answer) (entry_of y.answer)) in
-    let fewer : n ≡ min (length cs) (length slots) = omega arith in
-    ap (λ (o : Compared). one_more (exchange x.answer y.answer) (cond (enters x.answer || enters y.answer) ends o)) (taken n cs slots x.after y.after fewer)
+    ∙ i)

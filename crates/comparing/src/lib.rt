@@ -35,11 +35,12 @@ pub fn compare<Ours: Memory, Theirs: Memory>(
     ensures our_rest { Ours.Memory.rest our_memory.new ≡ Ours.Memory.rest our_memory.old }
     ensures their_rest { Theirs.Memory.rest their_memory.new ≡ Theirs.Memory.rest their_memory.old }
 {
-    let most = calls.len().min(exchanges.len());
-    for (made, call) in calls[..most].iter().enumerate() {
+    for (made, slot) in exchanges.iter_mut().enumerate() {
+        let Some(call) = calls.get(made) else {
+            break;
+        };
         let exchange = give_both(ours, our_memory, theirs, their_memory, *call);
-        // By index: once what `iter_mut` lends is over, no clause says what the slots hold.
-        exchanges[made] = exchange;
+        *slot = exchange;
         let comparison = Comparison {
             calls: made + 1,
             ours: entry(exchange.ours),
@@ -50,7 +51,7 @@ pub fn compare<Ours: Memory, Theirs: Memory>(
         }
     }
     Comparison {
-        calls: most,
+        calls: calls.len().min(exchanges.len()),
         ours: None,
         theirs: None,
     }
