@@ -33,21 +33,30 @@ impl Comparison {
     }
 }
 
+/// A machine and its memory.
+#[derive(Drop)]
+pub struct Side<'m, Mem> {
+    pub machine: &'m mut Machine,
+    pub memory: &'m mut Mem,
+}
+
 /// Gives a call to both machines.
 pub(crate) fn give_both<Ours: Memory, Theirs: Memory>(
-    ours: &mut Machine,
-    our_memory: &mut Ours,
-    theirs: &mut Machine,
-    their_memory: &mut Theirs,
+    ours: &mut Side<'_, Ours>,
+    theirs: &mut Side<'_, Theirs>,
     call: Call,
 ) -> Exchange
-    ensures ours { outcome (world ours.new.state (Ours.Memory.marks our_memory.new) (Ours.Memory.bytes our_memory.new)) result.ours ≡ call_of call (world ours.old.state (Ours.Memory.marks our_memory.old) (Ours.Memory.bytes our_memory.old)) }
-    ensures our_rest { Ours.Memory.rest our_memory.new ≡ Ours.Memory.rest our_memory.old }
-    ensures theirs { outcome (world theirs.new.state (Theirs.Memory.marks their_memory.new) (Theirs.Memory.bytes their_memory.new)) result.theirs ≡ call_of call (world theirs.old.state (Theirs.Memory.marks their_memory.old) (Theirs.Memory.bytes their_memory.old)) }
-    ensures their_rest { Theirs.Memory.rest their_memory.new ≡ Theirs.Memory.rest their_memory.old }
+    ensures ours { outcome (world ours.new.machine.now.state (Ours.Memory.marks ours.new.memory.now) (Ours.Memory.bytes ours.new.memory.now)) result.ours ≡ call_of call (world ours.old.machine.now.state (Ours.Memory.marks ours.old.memory.now) (Ours.Memory.bytes ours.old.memory.now)) }
+    ensures our_rest { Ours.Memory.rest ours.new.memory.now ≡ Ours.Memory.rest ours.old.memory.now }
+    ensures our_machine { ours.new.machine.ghost_name ≡ ours.old.machine.ghost_name }
+    ensures our_memory { ours.new.memory.ghost_name ≡ ours.old.memory.ghost_name }
+    ensures theirs { outcome (world theirs.new.machine.now.state (Theirs.Memory.marks theirs.new.memory.now) (Theirs.Memory.bytes theirs.new.memory.now)) result.theirs ≡ call_of call (world theirs.old.machine.now.state (Theirs.Memory.marks theirs.old.memory.now) (Theirs.Memory.bytes theirs.old.memory.now)) }
+    ensures their_rest { Theirs.Memory.rest theirs.new.memory.now ≡ Theirs.Memory.rest theirs.old.memory.now }
+    ensures their_machine { theirs.new.machine.ghost_name ≡ theirs.old.machine.ghost_name }
+    ensures their_memory { theirs.new.memory.ghost_name ≡ theirs.old.memory.ghost_name }
 {
     Exchange {
-        ours: make_call(ours, our_memory, call),
-        theirs: make_call(theirs, their_memory, call),
+        ours: make_call(&mut *ours.machine, &mut *ours.memory, call),
+        theirs: make_call(&mut *theirs.machine, &mut *theirs.memory, call),
     }
 }

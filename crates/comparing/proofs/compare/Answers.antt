@@ -17,6 +17,10 @@ loop-made-preserved g c =
       given.our_rest ∙ i.1,
       given.their_rest ∙ i.2,
       omega arith,
+      given.our_machine ∙ i.4,
+      given.our_memory ∙ i.5,
+      given.their_machine ∙ i.6,
+      given.their_memory ∙ i.7,
     )
 
 pub returns-then-has_entry : goal.returns-then-has_entry
@@ -28,9 +32,13 @@ returns-then-has_entry g c =
     let exact = ends _ _ c.loop-made.made _ _ _ _ (ltb-true _ _ (sym found.0)) slot found.1 given.ours given.theirs c.entry.ensures c.entry-in-loop-made.ensures (sym c.has_entry.ensures ∙ c.if-has_entry.true) i.0 in
     record {
       exact = exact;
-      isolated = isolated _ _ _ _ _ _ _ _ c.args.ours.now.sound c.args.theirs.now.sound exact;
+      isolated = isolated _ _ _ _ _ _ _ _ c.args.ours.now.machine.now.sound c.args.theirs.now.machine.now.sound exact;
       our_rest = given.our_rest ∙ i.1;
       their_rest = given.their_rest ∙ i.2;
+      our_machine = given.our_machine ∙ i.4;
+      our_memory = given.our_memory ∙ i.5;
+      their_machine = given.their_machine ∙ i.6;
+      their_memory = given.their_memory ∙ i.7;
     }
 
 pub returns : goal.returns
@@ -41,7 +49,11 @@ returns g c =
     let exact = over _ _ _ c.loop-made.made _ _ _ kept used_up (omega arith) i.0 in
     record {
       exact = exact;
-      isolated = isolated _ _ _ _ _ _ _ _ c.args.ours.now.sound c.args.theirs.now.sound exact;
+      isolated = isolated _ _ _ _ _ _ _ _ c.args.ours.now.machine.now.sound c.args.theirs.now.machine.now.sound exact;
       our_rest = i.1;
       their_rest = i.2;
+      our_machine = i.4;
+      our_memory = i.5;
+      their_machine = i.6;
+      their_memory = i.7;
     }
