@@ -1,6 +1,7 @@
 //! One call given to two machines.
 ghost use Rattle.std.specs.Prelude.{◌≡◌, ◌||◌};
-ghost use Rattle.execution.specs.Worlds.{outcome, world};
+ghost use Rattle.execution.specs.Worlds.{outcome};
+ghost use Rattle.comparing.specs.Sides.{LendsSame, world_of};
 ghost use Rattle.calls.specs.Calls.{call_of, is_event};
 
 use calls::{Answer, Call, make_call};
@@ -33,7 +34,7 @@ impl Comparison {
     }
 }
 
-/// A machine and its memory.
+/// A machine and its memory, lent together.
 #[derive(Drop)]
 pub struct Side<'m, Mem> {
     pub machine: &'m mut Machine,
@@ -46,17 +47,15 @@ pub(crate) fn give_both<Ours: Memory, Theirs: Memory>(
     theirs: &mut Side<'_, Theirs>,
     call: Call,
 ) -> Exchange
-    ensures ours { outcome (world ours.new.machine.now.state (Ours.Memory.marks ours.new.memory.now) (Ours.Memory.bytes ours.new.memory.now)) result.ours ≡ call_of call (world ours.old.machine.now.state (Ours.Memory.marks ours.old.memory.now) (Ours.Memory.bytes ours.old.memory.now)) }
+    ensures ours { outcome (world_of Ours.Memory.marks Ours.Memory.bytes ours.new) result.ours ≡ call_of call (world_of Ours.Memory.marks Ours.Memory.bytes ours.old) }
     ensures our_rest { Ours.Memory.rest ours.new.memory.now ≡ Ours.Memory.rest ours.old.memory.now }
-    ensures our_machine { ours.new.machine.ghost_name ≡ ours.old.machine.ghost_name }
-    ensures our_memory { ours.new.memory.ghost_name ≡ ours.old.memory.ghost_name }
-    ensures theirs { outcome (world theirs.new.machine.now.state (Theirs.Memory.marks theirs.new.memory.now) (Theirs.Memory.bytes theirs.new.memory.now)) result.theirs ≡ call_of call (world theirs.old.machine.now.state (Theirs.Memory.marks theirs.old.memory.now) (Theirs.Memory.bytes theirs.old.memory.now)) }
+    ensures our_side { LendsSame ours.old ours.new }
+    ensures theirs { outcome (world_of Theirs.Memory.marks Theirs.Memory.bytes theirs.new) result.theirs ≡ call_of call (world_of Theirs.Memory.marks Theirs.Memory.bytes theirs.old) }
     ensures their_rest { Theirs.Memory.rest theirs.new.memory.now ≡ Theirs.Memory.rest theirs.old.memory.now }
-    ensures their_machine { theirs.new.machine.ghost_name ≡ theirs.old.machine.ghost_name }
-    ensures their_memory { theirs.new.memory.ghost_name ≡ theirs.old.memory.ghost_name }
+    ensures their_side { LendsSame theirs.old theirs.new }
 {
     Exchange {
-        ours: make_call(&mut *ours.machine, &mut *ours.memory, call),
-        theirs: make_call(&mut *theirs.machine, &mut *theirs.memory, call),
+        ours: make_call(ours.machine, ours.memory, call),
+        theirs: make_call(theirs.machine, theirs.memory, call),
     }
 }

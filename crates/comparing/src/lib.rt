@@ -5,9 +5,9 @@
 pub mod exchange;
 
 ghost use Rattle.std.specs.Prelude.{◌≡◌};
-ghost use Rattle.execution.specs.Worlds.{world};
 ghost use Rattle.comparing.specs.Comparisons.{compare_of, compared};
 ghost use Rattle.comparing.specs.Isolated.{Isolated};
+ghost use Rattle.comparing.specs.Sides.{LendsSame, world_of};
 
 use crate::exchange::{Comparison, Exchange, Side, give_both};
 use calls::{Call, entry};
@@ -19,22 +19,18 @@ use memory::Memory;
 ///
 /// If both machines were in user mode and agreed on the user's share, then all that the isolation
 /// law says holds of what they answered and of what they are after it.
-// A machine and its memory are lent apart: what a struct of the two lends leaves behind, a clause
-// could name only by the places of its fields.
 pub fn compare<Ours: Memory, Theirs: Memory>(
     ours: &mut Side<'_, Ours>,
     theirs: &mut Side<'_, Theirs>,
     calls: &[Call],
     exchanges: &mut [Exchange],
 ) -> Comparison
-    ensures exact { compared (world ours.new.machine.now.state (Ours.Memory.marks ours.new.memory.now) (Ours.Memory.bytes ours.new.memory.now)) (world theirs.new.machine.now.state (Theirs.Memory.marks theirs.new.memory.now) (Theirs.Memory.bytes theirs.new.memory.now)) exchanges.new result ≡ compare_of calls.now exchanges.old (world ours.old.machine.now.state (Ours.Memory.marks ours.old.memory.now) (Ours.Memory.bytes ours.old.memory.now)) (world theirs.old.machine.now.state (Theirs.Memory.marks theirs.old.memory.now) (Theirs.Memory.bytes theirs.old.memory.now)) }
-    ensures isolated { Isolated (world ours.old.machine.now.state (Ours.Memory.marks ours.old.memory.now) (Ours.Memory.bytes ours.old.memory.now)) (world theirs.old.machine.now.state (Theirs.Memory.marks theirs.old.memory.now) (Theirs.Memory.bytes theirs.old.memory.now)) (world ours.new.machine.now.state (Ours.Memory.marks ours.new.memory.now) (Ours.Memory.bytes ours.new.memory.now)) (world theirs.new.machine.now.state (Theirs.Memory.marks theirs.new.memory.now) (Theirs.Memory.bytes theirs.new.memory.now)) exchanges.new result }
+    ensures exact { compared (world_of Ours.Memory.marks Ours.Memory.bytes ours.new) (world_of Theirs.Memory.marks Theirs.Memory.bytes theirs.new) exchanges.new result ≡ compare_of calls.now exchanges.old (world_of Ours.Memory.marks Ours.Memory.bytes ours.old) (world_of Theirs.Memory.marks Theirs.Memory.bytes theirs.old) }
+    ensures isolated { Isolated (world_of Ours.Memory.marks Ours.Memory.bytes ours.old) (world_of Theirs.Memory.marks Theirs.Memory.bytes theirs.old) (world_of Ours.Memory.marks Ours.Memory.bytes ours.new) (world_of Theirs.Memory.marks Theirs.Memory.bytes theirs.new) exchanges.new result }
     ensures our_rest { Ours.Memory.rest ours.new.memory.now ≡ Ours.Memory.rest ours.old.memory.now }
     ensures their_rest { Theirs.Memory.rest theirs.new.memory.now ≡ Theirs.Memory.rest theirs.old.memory.now }
-    ensures our_machine { ours.new.machine.ghost_name ≡ ours.old.machine.ghost_name }
-    ensures our_memory { ours.new.memory.ghost_name ≡ ours.old.memory.ghost_name }
-    ensures their_machine { theirs.new.machine.ghost_name ≡ theirs.old.machine.ghost_name }
-    ensures their_memory { theirs.new.memory.ghost_name ≡ theirs.old.memory.ghost_name }
+    ensures our_side { LendsSame ours.old ours.new }
+    ensures their_side { LendsSame theirs.old theirs.new }
 {
     for (made, slot) in exchanges.iter_mut().enumerate() {
         let Some(call) = calls.get(made) else {
