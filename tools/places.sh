@@ -25,7 +25,7 @@ place "3a a loop over a range, a while or a loop" 'for \w+ in [^{]*\.\.|while |l
 echo "# 4. derives and library traits"
 place "4a a type that derives Clone and Copy alone" 'derive\(Clone, Copy\)\]'
 place "4b a conversion, a comparison or a look-up by hand" 'fn (is|same_word|is_store|is_digit|flag|unsigned|signed|register|system_register|word|letter_at|char_at|word_or_zero|byte_or_zero|or_unknown|extend_byte|digit_value|hex_digit)\b'
-place "4c a number of an enum by a match" 'fn (number|code)\('
+place "4c a method that gives the number of an enum" 'fn (number|code)\('
 place "4d a text made or printed by hand" 'fn (\w+_text|print_\w+|show\w*|refused|word)\('
 echo "# 5. facts and parameters that travel together"
 place "5a a mode beside a table, and a text beside an index" '(user: bool,|user: bool, address)|\(text: &\[u8\], i: usize|text: &\[u8\], i: usize'

@@ -28,7 +28,8 @@ fn raise(event: Event, detail: u16) -> Result<Progress, Raised>
     Err(Raised { event, detail })
 }
 
-// A match over the instructions, with a guard for the mode: a rule of the project.
+// A match over the instructions, with a guard for the mode: a rule of the project. State and memory
+// are lent apart, as they are to each call of a machine: a struct of both would be made in each.
 /// Does what an instruction says. One that raises an event leaves state and memory alone.
 pub fn execute<Mem: Memory>(
     state: &mut State,
