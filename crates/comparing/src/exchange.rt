@@ -1,6 +1,7 @@
 //! One call given to two machines.
 ghost use Rattle.std.specs.Prelude.{◌≡◌, ◌||◌};
-ghost use Rattle.execution.specs.Worlds.{outcome, world};
+ghost use Rattle.execution.specs.Worlds.{outcome};
+ghost use Rattle.comparing.specs.Sides.{LendsSame, world_of};
 ghost use Rattle.calls.specs.Calls.{call_of, is_event};
 
 use calls::{Answer, Call, make_call};
@@ -33,21 +34,28 @@ impl Comparison {
     }
 }
 
+/// A machine and its memory, lent together.
+#[derive(Drop)]
+pub struct Side<'m, Mem> {
+    pub machine: &'m mut Machine,
+    pub memory: &'m mut Mem,
+}
+
 /// Gives a call to both machines.
 pub(crate) fn give_both<Ours: Memory, Theirs: Memory>(
-    ours: &mut Machine,
-    our_memory: &mut Ours,
-    theirs: &mut Machine,
-    their_memory: &mut Theirs,
+    ours: &mut Side<'_, Ours>,
+    theirs: &mut Side<'_, Theirs>,
     call: Call,
 ) -> Exchange
-    ensures ours { outcome (world ours.new.state (Ours.Memory.marks our_memory.new) (Ours.Memory.bytes our_memory.new)) result.ours ≡ call_of call (world ours.old.state (Ours.Memory.marks our_memory.old) (Ours.Memory.bytes our_memory.old)) }
-    ensures our_rest { Ours.Memory.rest our_memory.new ≡ Ours.Memory.rest our_memory.old }
-    ensures theirs { outcome (world theirs.new.state (Theirs.Memory.marks their_memory.new) (Theirs.Memory.bytes their_memory.new)) result.theirs ≡ call_of call (world theirs.old.state (Theirs.Memory.marks their_memory.old) (Theirs.Memory.bytes their_memory.old)) }
-    ensures their_rest { Theirs.Memory.rest their_memory.new ≡ Theirs.Memory.rest their_memory.old }
+    ensures ours { outcome (world_of Ours.Memory.marks Ours.Memory.bytes ours.new) result.ours ≡ call_of call (world_of Ours.Memory.marks Ours.Memory.bytes ours.old) }
+    ensures our_rest { Ours.Memory.rest ours.new.memory.now ≡ Ours.Memory.rest ours.old.memory.now }
+    ensures our_side { LendsSame ours.old ours.new }
+    ensures theirs { outcome (world_of Theirs.Memory.marks Theirs.Memory.bytes theirs.new) result.theirs ≡ call_of call (world_of Theirs.Memory.marks Theirs.Memory.bytes theirs.old) }
+    ensures their_rest { Theirs.Memory.rest theirs.new.memory.now ≡ Theirs.Memory.rest theirs.old.memory.now }
+    ensures their_side { LendsSame theirs.old theirs.new }
 {
     Exchange {
-        ours: make_call(ours, our_memory, call),
-        theirs: make_call(theirs, their_memory, call),
+        ours: make_call(ours.machine, ours.memory, call),
+        theirs: make_call(theirs.machine, theirs.memory, call),
     }
 }

@@ -1,10 +1,16 @@
 use Rattle.std.proofs.Common.{◌≡◌, ◌<◌, length, sym, ◌∙◌, arith}
 use Rattle.std.proofs.lemmas.Bool.{ltb-false, ltb-true}
 use Rattle.std.proofs.lemmas.List.{set-get_or}
+use Rattle.comparing.specs.declared.exchange.Side.{Side}
+use Rattle.comparing.specs.Sides.{LendsSame}
 use Rattle.comparing.proofs.Telling.{isolated}
 use Rattle.comparing.proofs.Turns.{ends, goes_on, over}
 use Rattle.comparing.proofs.compare.Goals.{else-loop-made-test, then-loop-made-test+in_default}
 use Rattle.comparing.proofs.compare.Goals as goal
+
+-- a side that lends the same over one call and over the next lends the same over both
+same : {Mem : Type 0} {s t u : Side Mem} → LendsSame s t → LendsSame t u → LendsSame s u
+same p q = record { machine = q.machine ∙ p.machine; memory = q.memory ∙ p.memory }
 
 pub loop-made-preserved : goal.loop-made-preserved
 loop-made-preserved g c =
@@ -17,6 +23,8 @@ loop-made-preserved g c =
       given.our_rest ∙ i.1,
       given.their_rest ∙ i.2,
       omega arith,
+      same i.4 given.our_side,
+      same i.5 given.their_side,
     )
 
 pub returns-then-has_entry : goal.returns-then-has_entry
@@ -28,9 +36,11 @@ returns-then-has_entry g c =
     let exact = ends _ _ c.loop-made.made _ _ _ _ (ltb-true _ _ (sym found.0)) slot found.1 given.ours given.theirs c.entry.ensures c.entry-in-loop-made.ensures (sym c.has_entry.ensures ∙ c.if-has_entry.true) i.0 in
     record {
       exact = exact;
-      isolated = isolated _ _ _ _ _ _ _ _ c.args.ours.now.sound c.args.theirs.now.sound exact;
+      isolated = isolated _ _ _ _ _ _ _ _ c.args.ours.now.machine.now.sound c.args.theirs.now.machine.now.sound exact;
       our_rest = given.our_rest ∙ i.1;
       their_rest = given.their_rest ∙ i.2;
+      our_side = same i.4 given.our_side;
+      their_side = same i.5 given.their_side;
     }
 
 pub returns : goal.returns
@@ -41,7 +51,9 @@ returns g c =
     let exact = over _ _ _ c.loop-made.made _ _ _ kept used_up (omega arith) i.0 in
     record {
       exact = exact;
-      isolated = isolated _ _ _ _ _ _ _ _ c.args.ours.now.sound c.args.theirs.now.sound exact;
+      isolated = isolated _ _ _ _ _ _ _ _ c.args.ours.now.machine.now.sound c.args.theirs.now.machine.now.sound exact;
       our_rest = i.1;
       their_rest = i.2;
+      our_side = i.4;
+      their_side = i.5;
     }
