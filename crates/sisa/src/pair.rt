@@ -3,7 +3,7 @@ use crate::bench::Bench;
 use crate::readings::Told;
 use calls::{Answer, Call};
 use comparing::compare;
-use comparing::exchange::{Comparison, Exchange};
+use comparing::exchange::{Comparison, Exchange, Side};
 use machine::machine::Machine;
 use memory::Memory;
 use memory::flat::FlatMemory;
@@ -164,10 +164,14 @@ fn run_pair<Ours: Memory, Theirs: Memory>(
     };
     let mut exchanges = vec![in rt.alloc(); nothing; calls.len()]?;
     let comparison = compare(
-        &mut ours,
-        our_memory,
-        &mut theirs,
-        their_memory,
+        &mut Side {
+            machine: &mut ours,
+            memory: our_memory,
+        },
+        &mut Side {
+            machine: &mut theirs,
+            memory: their_memory,
+        },
         calls,
         exchanges.as_mut_slice(),
     );

@@ -8,6 +8,7 @@ use Rattle.comparing.proofs.Turns.{ends, goes_on, over}
 use Rattle.comparing.proofs.compare.Goals.{else-loop-made-test, then-loop-made-test+in_default}
 use Rattle.comparing.proofs.compare.Goals as goal
 
+-- a side that lends the same over one call and over the next lends the same over both
 same : {Mem : Type 0} {s t u : Side Mem} → LendsSame s t → LendsSame t u → LendsSame s u
 same p q = record { machine = q.machine ∙ p.machine; memory = q.memory ∙ p.memory }
 

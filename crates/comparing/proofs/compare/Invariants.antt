@@ -4,7 +4,7 @@ use Rattle.comparing.specs.Sides.{LendsSame, world_of}
 use Rattle.comparing.proofs.Turns.{remaining}
 use Rattle.comparing.proofs.compare.Given as goal
 
--- what is left, after the calls that were made, comes to what the whole comparison comes to, and what lies beside the memories stays
+-- what is left, after the calls that were made, comes to what the whole comparison comes to, and what lies beside the memories stays, as does what the sides lend
 abbrev pub invariant-loop-made : goal.invariant-loop-made
 invariant-loop-made g l =
     (remaining l.made l.calls l.exchanges
