@@ -1,7 +1,9 @@
 #!/bin/bash
 # Lists the places in crates/*/src that today's forms of the language may replace, by point, with their number.
 # Run it from the top of the repository: tools/places.sh [-c]   (-c: the numbers alone). docs/DESIGN-PASS.md says what each point is.
+# For twins it asks the command `duplicates` of the place where the repository is worked on, which lists pairs of like places.
 only=$1
+command -v duplicates > /dev/null || { echo "places.sh: no command duplicates, by which twins are listed" >&2; exit 1; }
 place() { # place TITLE REGEX [FILES]: the lines of the sources that match, but for comments
     local found
     found=$(git ls-files 'crates/*/src/*.rt' | xargs grep -nE "$2" | grep -vE '^[^:]+:[0-9]+:\s*//')

@@ -32,6 +32,7 @@ pub fn compare<Ours: Memory, Theirs: Memory>(
     ensures our_side { LendsSame ours.old ours.new }
     ensures their_side { LendsSame theirs.old theirs.new }
 {
+    // Not zipped with the calls: after a `zip` no clause says what the slots hold.
     for (made, slot) in exchanges.iter_mut().enumerate() {
         let Some(call) = calls.get(made) else {
             break;

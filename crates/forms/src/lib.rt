@@ -73,7 +73,7 @@ impl Entry for FormRow {
     }
 }
 
-// Rows of masks and values in constant memory, in the order of the specification: that is how a form is found here.
+// A constant table of masks and values, by a rule of the project: no heap holds a map.
 const FORMS: [FormRow; 44] = [
     FormRow {
         mask: 0b1111_000_000_111_000,

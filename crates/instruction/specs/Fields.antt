@@ -1,5 +1,6 @@
 -- What the fields of a word stand for.
-use Rattle.std.specs.Prelude.{ℕ, suc, ◌-◌, ◌*◌, cond, [], ◌∷◌, ℤ, pos, negsuc, nat_lt, slice_index_or}
+use Rattle.std.specs.Prelude.{ℕ, suc, ◌-◌, ◌*◌, cond, [], ◌∷◌, ℤ, pos, negsuc, nat_lt, slice_index_or, Ok, Err, Result, if◌then◌else◌}
+use Rattle.instruction.specs.declared.NoSuchRegister.{NoSuchRegister}
 use Rattle.instruction.specs.declared.Register.{Register}
 use Rattle.instruction.specs.declared.Register.TheVariants.{R0, R1, R2, R3, R4, R5, R6, R7}
 use Rattle.instruction.specs.declared.SystemRegister.{SystemRegister}
@@ -11,6 +12,10 @@ register_of n = slice_index_or (R0 ∷ R1 ∷ R2 ∷ R3 ∷ R4 ∷ R5 ∷ R6 ∷
 abbrev pub system_register_of : ℕ → SystemRegister
 system_register_of n =
     slice_index_or (SavedStatus ∷ ReturnAddress ∷ Event ∷ Detail ∷ Scratch ∷ EntryAddress ∷ StackPointer ∷ Status ∷ []) n SavedStatus
+
+-- a number up to 7 names a system register
+abbrev pub system_register_numbered : ℕ → Result SystemRegister NoSuchRegister
+system_register_numbered n = if nat_lt n 8 then Ok (system_register_of n) else Err (record {})
 
 abbrev pub register_number : Register → ℕ
 register_number R0 = 0

@@ -1,15 +1,16 @@
 //! The fields of a word, and what they stand for.
 ghost use Rattle.std.specs.Prelude.{◌≡◌, ◌*◌, ◌<◌, ◌≤◌};
-ghost use Rattle.instruction.specs.Fields.{register_of, system_register_of, signed_of, register_number, system_number, unsigned_of};
+ghost use Rattle.instruction.specs.Fields.{register_of, system_register_of, signed_of, register_number, system_number, system_register_numbered, unsigned_of};
 
-use crate::{Register, SystemRegister};
+use crate::{NoSuchRegister, Register, SystemRegister};
 
 /// The register of a three-bit field.
 pub(crate) fn register(field: u16) -> Register
     requires { field < 8 }
     ensures { result ≡ register_of field }
 {
-    // A match and not a table: with tables in memory here, decoding every word 300 times took 216 ms, not 181.
+    // A match and not a table: with tables in memory here, decoding every word 300 times took 216 ms,
+    // and the match meets the 181 ms that it took before.
     match field {
         0 => Register::R0,
         1 => Register::R1,
@@ -27,17 +28,7 @@ pub(crate) fn system_register(field: u16) -> SystemRegister
     requires { field < 8 }
     ensures { result ≡ system_register_of field }
 {
-    // A match and not a table, as for `register`.
-    match field {
-        0 => SystemRegister::SavedStatus,
-        1 => SystemRegister::ReturnAddress,
-        2 => SystemRegister::Event,
-        3 => SystemRegister::Detail,
-        4 => SystemRegister::Scratch,
-        5 => SystemRegister::EntryAddress,
-        6 => SystemRegister::StackPointer,
-        _ => SystemRegister::Status,
-    }
+    SystemRegister::try_from(u32::from(field)).unwrap()
 }
 
 /// The signed number of a field with `2 * half` values.
@@ -61,6 +52,26 @@ impl Register {
         ensures bound { result < 8 }
     {
         self as u16
+    }
+}
+
+impl TryFrom<u32> for SystemRegister {
+    type Error = NoSuchRegister;
+
+    ghost try_from_gives = { λ number register. register ≡ system_register_numbered number };
+
+    fn try_from(number: u32) -> Result<SystemRegister, NoSuchRegister> {
+        match number {
+            0 => Ok(SystemRegister::SavedStatus),
+            1 => Ok(SystemRegister::ReturnAddress),
+            2 => Ok(SystemRegister::Event),
+            3 => Ok(SystemRegister::Detail),
+            4 => Ok(SystemRegister::Scratch),
+            5 => Ok(SystemRegister::EntryAddress),
+            6 => Ok(SystemRegister::StackPointer),
+            7 => Ok(SystemRegister::Status),
+            _ => Err(NoSuchRegister),
+        }
     }
 }
 

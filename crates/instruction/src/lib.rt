@@ -35,6 +35,10 @@ pub enum SystemRegister {
     Status,
 }
 
+/// There is no register above 7.
+#[derive(Clone, Copy, PartialEq, Eq, Debug)]
+pub struct NoSuchRegister;
+
 /// The number of an input or an output port.
 #[derive(Clone, Copy, PartialEq, Eq, Debug)]
 pub struct Port {

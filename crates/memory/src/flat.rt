@@ -5,6 +5,7 @@ ghost use Rattle.std.specs.Prelude.{◌≡◌, length};
 ghost use Rattle.memory.specs.contracts.flat.meaning.FlatMemoryMemory.TheImpl.{ghosts as flat};
 ghost use Rattle.memory.specs.Flat.{flat_marks, flat_bytes, flat_rest};
 
+// A kind of its own beside the split memory, by a rule of the project.
 /// A memory over one buffer of any length. Each frame that fits into the
 /// buffer is plain, and all others are absent. What is left of the buffer behind the last frame is
 /// neither read nor written.

@@ -16,6 +16,7 @@ pub fn parse_number(word: &[u8], most: u32) -> Option<u32>
     }
 }
 
+// Not `from_str_radix`, which takes a sign and a `str`.
 /// A number of one or more digits.
 fn parse_digits(digits: &[u8], base: u32, most: u32) -> Option<u32>
     ensures value { result ≡ digits_of base most digits.now }

@@ -102,11 +102,7 @@ impl Bench {
         let memory = self.store.memory();
         let mut before = "";
         for at in (0..count).map(|i| address.saturating_add(i)) {
-            let byte = match u16::try_from(at) {
-                Ok(at) => memory.read(at).ok(),
-                Err(_) => None,
-            };
-            match byte {
+            match u16::try_from(at).ok().and_then(|at| memory.read(at).ok()) {
                 Some(byte) => print!(rt; "{before}{byte:02X}")?,
                 None => print!(rt; "{before}--")?,
             }

@@ -9,11 +9,11 @@ use memory::Memory;
 use memory::flat::FlatMemory;
 use memory::split::SplitMemory;
 use monitor::commands::{Command, parse_command};
-use monitor::lines::split_line;
 use pairing::image::Image;
 use pairing::scripts::call_of;
 use std::alloc::{AllocError, Global};
 use std::fmt;
+use translation::event::Event;
 
 /// The supervisor of both machines. It takes its secrets from 0x8400 (S4, S5, S6 and a table entry
 /// of its own half), gives the user page 0 in frame 40 and page 1 in frame 41 and no other page,
@@ -91,9 +91,8 @@ pub fn pair(rt: &HostRuntime, bench: &mut Bench, script: &[u8]) -> anyhow::Resul
         user: user.as_slice(),
     };
     let theirs = Image {
-        supervisor: &SUPERVISOR,
         secrets: &THEIR_SECRETS,
-        user: user.as_slice(),
+        ..ours
     };
     let mut our_bytes = vec![in heap; 0; MEMORY_SIZE]?;
     ours.fill(0, our_bytes.as_mut_slice());
@@ -109,21 +108,15 @@ pub fn pair(rt: &HostRuntime, bench: &mut Bench, script: &[u8]) -> anyhow::Resul
 /// The calls of a script, or nothing if a line of it is none.
 fn calls_of(heap: Global, script: &[u8]) -> Result<Option<Vec<Call>>, AllocError> {
     let mut calls = Vec::new(heap);
-    let mut rest = Some(script);
-    // The bound shows that the loop ends: a text has at most one line more than it has bytes.
-    for _ in 0..=script.len() {
-        let Some(lines) = rest else {
-            break;
-        };
-        let split = split_line(lines);
-        rest = split.rest;
-        match parse_command(split.word) {
-            Command::Nothing => {}
-            command => match call_of(command) {
-                Some(call) => calls.push(call)?,
-                None => return Ok(None),
-            },
+    for line in script.split(|byte| *byte == b'\n') {
+        let command = parse_command(line);
+        if command == Command::Nothing {
+            continue;
         }
+        let Some(call) = call_of(command) else {
+            return Ok(None);
+        };
+        calls.push(call)?;
     }
     Ok(Some(calls))
 }
@@ -185,7 +178,7 @@ fn run_pair<Ours: Memory, Theirs: Memory>(
 }
 
 /// A call as a script has it.
-#[derive(Clone, Copy)]
+#[derive(Clone, Copy, PartialEq, Eq, Debug)]
 struct Asked(Call);
 
 impl fmt::Display for Asked {
@@ -202,8 +195,8 @@ impl fmt::Display for Asked {
 }
 
 /// The answer of a call.
-#[derive(Clone, Copy)]
-struct Given(Answer);
+#[derive(Clone, Copy, PartialEq, Eq, Debug)]
+pub struct Given(pub Answer);
 
 impl fmt::Display for Given {
     fn fmt<W: fmt::Write>(&self, f: &mut fmt::Formatter<W>) -> fmt::Result {
@@ -216,12 +209,25 @@ impl fmt::Display for Given {
     }
 }
 
+/// The code of the event with which a machine entered the system, if it did.
+#[derive(Clone, Copy, PartialEq, Eq, Debug)]
+struct Entry(Option<Event>);
+
+impl fmt::Display for Entry {
+    fn fmt<W: fmt::Write>(&self, f: &mut fmt::Formatter<W>) -> fmt::Result {
+        match self.0 {
+            Some(event) => write!(f, "{}", event.code()),
+            None => f.write_str("-"),
+        }
+    }
+}
+
 fn print_entry(rt: &HostRuntime, comparison: Comparison) -> anyhow::Result<()> {
-    match (comparison.ours, comparison.theirs) {
-        (Some(ours), Some(theirs)) => println!(rt; "entered {} | {}", ours.code(), theirs.code())?,
-        (Some(ours), None) => println!(rt; "entered {} | -", ours.code())?,
-        (None, Some(theirs)) => println!(rt; "entered - | {}", theirs.code())?,
-        (None, None) => println!(rt; "not entered")?,
+    if comparison.has_entry() {
+        let (ours, theirs) = (Entry(comparison.ours), Entry(comparison.theirs));
+        println!(rt; "entered {ours} | {theirs}")?;
+    } else {
+        println!(rt; "not entered")?;
     }
     Ok(())
 }

@@ -1,10 +1,12 @@
 //! One session: each line of the input is a command, and is answered before the next is read.
 use crate::bench::Bench;
 use crate::listing::list;
-use crate::pair::pair;
+use crate::pair::{Given, pair};
 use crate::readings::{Tell, Told, print_state};
 use answers::Refusal;
+use calls::make_call;
 use monitor::commands::{Command, parse_command};
+use pairing::scripts::call_of;
 use std::fs;
 use std::io::{BufRead, Write};
 use text::{LINE, read_text, write_text};
@@ -61,24 +63,22 @@ fn answer(rt: &HostRuntime, bench: &mut Bench, command: Command<'_>) -> anyhow::
     Ok(())
 }
 
-/// Answers one command to the machine.
+/// Answers one command to the machine: a call that a script may have too, or another.
 fn answer_machine(rt: &HostRuntime, bench: &mut Bench, command: Command<'_>) -> anyhow::Result<()> {
     let machine = &mut bench.machine;
     let mut memory = bench.store.memory();
+    if let Some(call) = call_of(command) {
+        println!(rt; "{}", Given(make_call(machine, &mut memory, call)))?;
+        return Ok(());
+    }
     match command {
         Command::Reset => {
             machine.reset();
             tell(rt, Ok(()))
         }
-        Command::Step => tell(rt, machine.step(&mut memory)),
         Command::Run { steps } => tell(rt, machine.run(&mut memory, steps)),
-        Command::UserRun { steps } => tell(rt, machine.user_run(&mut memory, steps)),
-        Command::Raise { line } => tell(rt, machine.raise(line)),
-        Command::Drive { port, word } => tell(rt, machine.drive(port, word)),
-        Command::Register { number } => tell(rt, machine.register(number)),
         Command::SystemRegister { number } => tell(rt, machine.system_register(number)),
         Command::Pc => tell(rt, Ok(machine.pc())),
-        Command::Output { port } => tell(rt, machine.output(port)),
         _ => Ok(()),
     }
 }

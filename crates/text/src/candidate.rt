@@ -53,6 +53,7 @@ fn field(piece: Piece, text: &[u8]) -> u16
     }
 }
 
+// Beside `field`, since how long a piece is and what it adds are two rules.
 /// How many characters the piece at the start of a text has.
 fn width(piece: Piece, text: &[u8]) -> usize
     ensures value { result ≡ width piece text.now }

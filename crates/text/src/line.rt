@@ -6,7 +6,8 @@ use crate::LINE;
 use std::marker::Model;
 
 /// A text of at most 24 bytes: what does not fit is left out.
-// A fixed buffer with its length: the core has no heap.
+// A fixed buffer with its length, since the core has no heap: what passes it is cut, where a push
+// into an `ArrayVec` would fail.
 #[derive(Drop)]
 pub struct Line {
     bytes: [u8; 24],

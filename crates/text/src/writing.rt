@@ -112,6 +112,7 @@ fn push_signed(line: &mut Line, half: u16, n: u16)
     }
 }
 
+// By hand and not by `write!`, to which a text that is cut would be an error.
 /// A number in decimal, without leading zeros.
 #[tactic(auto, using(crate::proofs::Growing::grown_join))]
 fn push_decimal(line: &mut Line, n: u16)

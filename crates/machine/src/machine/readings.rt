@@ -4,6 +4,7 @@ ghost use Rattle.machine.specs.Calls.{register_reading, system_reading};
 
 use crate::machine::Machine;
 use answers::Refusal;
+use instruction::SystemRegister;
 
 impl Machine {
     /// The value of R0 to R7, by its number.
@@ -21,18 +22,9 @@ impl Machine {
     pub fn system_register(&self, number: u32) -> Result<u16, Refusal>
         ensures { result ≡ system_reading number self.now.state.system }
     {
-        // By number: the number is the caller's, and may name no register.
-        match number {
-            0 => Ok(self.state.system.saved_status),
-            1 => Ok(self.state.system.return_address),
-            2 => Ok(self.state.system.event),
-            3 => Ok(self.state.system.detail),
-            4 => Ok(self.state.system.scratch),
-            5 => Ok(self.state.system.entry_address),
-            6 => Ok(self.state.system.stack_pointer),
-            7 => Ok(self.state.system.status),
-            _ => Err(Refusal::NoSuchRegister),
-        }
+        SystemRegister::try_from(number)
+            .map(|s| self.state.system.read(s))
+            .map_err(|_| Refusal::NoSuchRegister)
     }
 
     /// The address of the next instruction.
