@@ -48,6 +48,7 @@ pub(crate) fn load<Mem: Memory>(
         user: state.system.is_user(),
         table: &state.tables.data,
     };
+    // The same closure as for a store and a fetch: a function in its place would be no shorter.
     let loaded = access::load(space, memory, address, width).map_err(|event| Raised {
         event,
         detail: address,

@@ -45,6 +45,7 @@ pub(crate) fn signed(field: u16, half: u16) -> i8
     }
 }
 
+// One line for each kind of register: a trait for both would be longer.
 impl Register {
     /// The register's number, 0 to 7.
     pub fn number(self) -> u16

@@ -7,6 +7,8 @@ use answers::Refusal;
 use instruction::SystemRegister;
 
 impl Machine {
+    // The same chain as for an output word and a line, of another array and with another refusal: a
+    // function for the three would take all that differs.
     /// The value of R0 to R7, by its number.
     pub fn register(&self, number: u32) -> Result<u16, Refusal>
         ensures { result ≡ register_reading number self.now.state.registers }
