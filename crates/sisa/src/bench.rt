@@ -100,13 +100,15 @@ impl Bench {
         count: u32,
     ) -> anyhow::Result<()> {
         let memory = self.store.memory();
-        let mut before = "";
-        for at in (0..count).map(|i| address.saturating_add(i)) {
-            match u16::try_from(at).ok().and_then(|at| memory.read(at).ok()) {
-                Some(byte) => print!(rt; "{before}{byte:02X}")?,
-                None => print!(rt; "{before}--")?,
+        for i in 0..count {
+            if i > 0 {
+                print!(rt; " ")?;
             }
-            before = " ";
+            let at = u16::try_from(address.saturating_add(i)).ok();
+            match at.and_then(|at| memory.read(at).ok()) {
+                Some(byte) => print!(rt; "{byte:02X}")?,
+                None => print!(rt; "--")?,
+            }
         }
         println!(rt; "")?;
         Ok(())
