@@ -19,6 +19,7 @@ use memory::Memory;
 ///
 /// If both machines were in user mode and agreed on the user's share, then all that the isolation
 /// law says holds of what they answered and of what they are after it.
+// Lent slots for the answers and how many were used: it allocates nothing.
 pub fn compare<Ours: Memory, Theirs: Memory>(
     ours: &mut Side<'_, Ours>,
     theirs: &mut Side<'_, Theirs>,

@@ -12,6 +12,7 @@ use memory::flat::FlatMemory;
 use memory::split::SplitMemory;
 use show::{show, show_put};
 
+// One function for each kind of memory: what they share is the last two lines.
 /// Loads `file` into a flat memory of `size` zero bytes.
 fn over_flat(rt: &HostRuntime, name: &str, size: usize, file: &[u8]) -> anyhow::Result<()> {
     let mut buffer = vec![in rt.alloc(); 0u8; size]?;

@@ -5,6 +5,8 @@ ghost use Rattle.monitor.specs.Numbers.{Within, with_digit, digits_of, number_of
 /// What a number in hexadecimal begins with.
 const HEXADECIMAL: &[u8] = b"0x";
 
+// That a number is at most what it may be is a clause of each function: a type for it would have to
+// carry the most that it may be.
 /// A number in decimal, or in hexadecimal after `0x`, if it is well-formed and at most `most`.
 pub fn parse_number(word: &[u8], most: u32) -> Option<u32>
     ensures value { result ≡ number_of word.now most }

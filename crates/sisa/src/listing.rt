@@ -54,6 +54,7 @@ fn list_block(rt: &HostRuntime, address: u16, body: &[u8]) -> anyhow::Result<()>
             [byte] => println!(rt; "{at:04X} {byte:02X}")?,
             _ => {}
         }
+        // By hand: the address wraps, and a range ends.
         at = at.wrapping_add(2);
     }
     Ok(())

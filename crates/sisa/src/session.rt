@@ -91,10 +91,9 @@ fn tell<T: Tell + Drop>(rt: &HostRuntime, answer: Result<T, Refusal>) -> anyhow:
 
 /// The bytes of a file, or the answer that it cannot be read.
 fn read_file(rt: &HostRuntime, name: &[u8]) -> anyhow::Result<Option<Vec<u8>>> {
-    if let Ok(path) = std::str::from_utf8(name) {
-        if let Ok(bytes) = fs::read(rt, path) {
-            return Ok(Some(bytes));
-        }
+    let path = std::str::from_utf8(name).ok();
+    if let Some(bytes) = path.and_then(|path| fs::read(rt, path).ok()) {
+        return Ok(Some(bytes));
     }
     let mut out = rt.stdout();
     out.write_all(b"cannot read ")?;
@@ -106,12 +105,11 @@ fn read_file(rt: &HostRuntime, name: &[u8]) -> anyhow::Result<Option<Vec<u8>>> {
 /// The text of a word, on a line of its own.
 pub fn print_text(rt: &HostRuntime, word: u16) -> anyhow::Result<()> {
     let mut buffer = [0; LINE];
-    if let Ok(length) = write_text(word, &mut buffer) {
-        if let Some(text) = buffer.get(0..length) {
-            let mut out = rt.stdout();
-            out.write_all(text)?;
-            out.write_all(b"\n")?;
-        }
+    let length = write_text(word, &mut buffer).ok();
+    if let Some(text) = length.and_then(|length| buffer.get(0..length)) {
+        let mut out = rt.stdout();
+        out.write_all(text)?;
+        out.write_all(b"\n")?;
     }
     Ok(())
 }

@@ -9,6 +9,7 @@ use crate::syntax::{Piece, pieces, syntax_of};
 use crate::{LINE, TextRefusal};
 use forms::{Form, form_of};
 
+// A lent buffer and the length that is used of it: a rule of the project.
 /// Writes the text of a word to the start of a buffer of at least 24 bytes, and answers its length.
 #[tactic(auto, using(crate::proofs::Back::text_short))]
 pub fn write_text(word: u16, buffer: &mut [u8]) -> Result<usize, TextRefusal>
