@@ -11,6 +11,10 @@ use memory::Memory;
 use translation::address::{Access, AddressSpace, Width};
 use translation::event::Event;
 
+// That a place has passed its checks is a `requires` of the four functions here: a type for such a
+// place would have to name the memory that it was checked against. The definitions take the mode
+// and the entries of a space apart, since of its table they speak of the entries alone.
+
 fn read_byte<Mem: Memory>(memory: &Mem, at: u16) -> u8
     requires { mark_at (Mem.marks memory.now) at ≢ Absent }
     ensures { result ≡ Mem.bytes memory.now at }
@@ -18,6 +22,7 @@ fn read_byte<Mem: Memory>(memory: &Mem, at: u16) -> u8
     memory.read(at).unwrap()
 }
 
+// `word_at` of a file's bytes is the same rule in records: neither crate stands on the other.
 /// The word at an even address, low byte first.
 fn read_word<Mem: Memory>(memory: &Mem, at: u16) -> u16
     requires even { at % 2 ≡ 0 }

@@ -44,6 +44,7 @@ pub(crate) fn load<Mem: Memory>(
     ensures { outcome (world state.new (Mem.marks memory.now) (Mem.bytes memory.now)) result ≡ loaded_into d width (offset_by width (register_at a state.old.registers) n) (world state.old (Mem.marks memory.now) (Mem.bytes memory.now)) }
 {
     let address = offset_by(width, state.register(a), n);
+    // Made where it is used, here and in the step: a function would have to promise both its fields.
     let space = AddressSpace {
         user: state.system.is_user(),
         table: &state.tables.data,

@@ -54,6 +54,7 @@ macro_rules! rows {
     };
 }
 
+// A constant table: no heap holds a map.
 const COMMANDS: [Named<Verb>; 18] = rows![
     b"text    " => Text,
     b"word    " => Word,

@@ -47,6 +47,7 @@ impl Bench {
         })
     }
 
+    // No `?` in the three that follow: where a memory cannot be had, the session goes on.
     /// A flat memory of `size` zero bytes.
     pub fn flat(&mut self, rt: &HostRuntime, size: u32) -> anyhow::Result<()> {
         match vec![in rt.alloc(); 0; size as usize] {

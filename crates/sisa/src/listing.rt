@@ -13,7 +13,8 @@ pub fn list(rt: &HostRuntime, file: &[u8]) -> anyhow::Result<()> {
 
 fn list_records(rt: &HostRuntime, reader: &mut Reader<'_>, length: usize) -> anyhow::Result<()> {
     let mut total: usize = 0;
-    // The bound shows that the loop ends: a file has fewer records than bytes.
+    // The bound shows that the loop ends, as a file has fewer records than bytes: a `while` would
+    // need a measure and its proof.
     for _ in 0..=length {
         let offset = reader.position();
         match reader.next_record() {

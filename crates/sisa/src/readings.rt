@@ -10,6 +10,7 @@ const LINES: u32 = 8;
 
 const PORTS: u32 = 256;
 
+// A trait of its own, since a word and the unit cannot have another `Display`.
 /// What a call answers if it is not refused, as the monitor tells it.
 pub trait Tell {
     fn tell<W: fmt::Write>(&self, f: &mut fmt::Formatter<W>) -> fmt::Result;

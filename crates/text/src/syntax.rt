@@ -71,6 +71,7 @@ macro_rules! row {
     };
 }
 
+// A constant table, as that of the forms: no heap holds a map.
 const SYNTAX: [Named<Syntax>; 44] = [
     row!(b"AND     ", ThreeRegisters, And),
     row!(b"OR      ", ThreeRegisters, Or),
