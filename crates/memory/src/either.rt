@@ -1,6 +1,5 @@
 //! A memory that is one of two kinds.
 ghost use Rattle.memory.specs.Either.{by_either};
-ghost use Rattle.memory.specs.declared.either.EitherMemory.TheVariants as kind;
 
 use crate::{Mark, Memory, MemoryFault};
 
@@ -38,6 +37,4 @@ impl<One: Memory, Other: Memory> Memory for EitherMemory<One, Other> {
             EitherMemory::Other(memory) => memory.write(address, byte),
         }
     }
-
-    ghost blank = { elim [ kind.One m ↦ One.blank m | kind.Other m ↦ Other.blank m ] };
 }

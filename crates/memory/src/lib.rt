@@ -67,9 +67,12 @@ pub trait Memory {
     /// All that the memory holds besides, which no access touches.
     ghost rest: { Self → Rest };
 
-    /// The mark of the frame that holds `address`.
+    // That absent bytes count as zero is a clause and no `law`: a law would be owed for numbers and
+    // lengths too that no value of the memory's type has, and ask more of who writes a memory.
+    /// The mark of the frame that holds `address`. Where no frame is, `bytes` is 0.
     fn mark(&self, address: u16) -> Mark
-        ensures { result ≡ mark_at (marks self.now) address };
+        ensures answer { result ≡ mark_at (marks self.now) address }
+        ensures blank { (k : ℕ) → mark_at (marks self.now) k ≡ Absent → bytes self.now k ≡ 0 };
 
     /// The byte at `address`, or the fault that its frame is absent.
     fn read(&self, address: u16) -> Result<u8, MemoryFault>
@@ -84,7 +87,4 @@ pub trait Memory {
         ensures bytes { bytes self.new ≡ written (marks self.old) (bytes self.old) address byte }
         ensures marks { marks self.new ≡ marks self.old }
         ensures rest { rest self.new ≡ rest self.old };
-
-    /// Every byte of an absent frame counts as zero.
-    ghost blank: { (memory : Self) → (k : ℕ) → mark_at (marks memory) k ≡ Absent → bytes memory k ≡ 0 };
 }

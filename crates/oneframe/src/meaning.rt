@@ -1,7 +1,5 @@
 //! What a memory of one frame means, and its accesses.
 ghost use Rattle.oneframe.specs.OneFrame.{one_marks, one_bytes, one_rest};
-ghost use Rattle.std.proofs.Common.{arith};
-ghost use Rattle.std.proofs.lemmas.Bool.Decides.{nat_tests};
 
 use crate::OneFrame;
 use memory::{FRAME_SIZE, Mark, Memory, MemoryFault};
@@ -32,6 +30,4 @@ impl Memory for OneFrame {
         self.array[address as usize] = byte;
         Ok(())
     }
-
-    ghost blank = { λ memory k absent. Prim.grind (arith, nat_tests) };
 }

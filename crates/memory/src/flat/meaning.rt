@@ -1,8 +1,6 @@
 //! What the memory over one buffer means, and its accesses.
 ghost use Rattle.std.specs.Prelude.{length};
 ghost use Rattle.memory.specs.Flat.{flat_marks, flat_bytes, flat_rest};
-ghost use Rattle.std.proofs.Common.{arith};
-ghost use Rattle.std.proofs.lemmas.Bool.Decides.{nat_tests};
 
 use crate::flat::FlatMemory;
 use crate::{FRAME_SIZE, Mark, Memory, MemoryFault};
@@ -32,6 +30,4 @@ impl Memory for FlatMemory<'_> {
         self.buffer[address as usize] = byte;
         Ok(())
     }
-
-    ghost blank = { λ memory k absent. Prim.grind (arith, nat_tests) };
 }

@@ -1,8 +1,6 @@
 //! What the memory over a read-only and a writable buffer means, and its accesses.
 ghost use Rattle.std.specs.Prelude.{◌-◌, ◌*◌, ◌<◌, length};
 ghost use Rattle.memory.specs.Split.{split_marks, split_bytes, split_rest};
-ghost use Rattle.std.proofs.Common.{arith};
-ghost use Rattle.std.proofs.lemmas.Bool.Decides.{nat_tests};
 
 use crate::split::SplitMemory;
 use crate::{FRAME_SIZE, Mark, Memory, MemoryFault};
@@ -41,6 +39,4 @@ impl Memory for SplitMemory<'_, '_> {
         self.plain[at] = byte;
         Ok(())
     }
-
-    ghost blank = { λ memory k absent. Prim.grind (arith, nat_tests) };
 }
