@@ -58,7 +58,10 @@ pub(crate) fn load<Mem: Memory>(
     Ok(Progress::Ran)
 }
 
+// Inlined always: behind a call, what an instruction raises was written as two halves and read as one
+// word, and a step that enters took 1.3 times as long.
 /// ST and STB.
+#[inline(always)]
 pub(crate) fn store<Mem: Memory>(
     state: &State,
     memory: &mut Mem,
