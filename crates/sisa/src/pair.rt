@@ -9,6 +9,7 @@ use memory::Memory;
 use memory::flat::FlatMemory;
 use memory::split::SplitMemory;
 use monitor::commands::{Command, parse_command};
+use monitor::lines::split_line;
 use pairing::image::Image;
 use pairing::scripts::call_of;
 use std::alloc::{AllocError, Global};
@@ -108,8 +109,16 @@ pub fn pair(rt: &HostRuntime, bench: &mut Bench, script: &[u8]) -> anyhow::Resul
 /// The calls of a script, or nothing if a line of it is none.
 fn calls_of(heap: Global, script: &[u8]) -> Result<Option<Vec<Call>>, AllocError> {
     let mut calls = Vec::new(heap);
-    for line in script.split(|byte| *byte == b'\n') {
-        let command = parse_command(line);
+    let mut rest = Some(script);
+    // By `split_line`, whose contract says what a line is. The bound shows that the loop ends, as a
+    // script has no more lines than one and its newlines.
+    for _ in 0..=script.len() {
+        let Some(text) = rest else {
+            break;
+        };
+        let line = split_line(text);
+        rest = line.rest;
+        let command = parse_command(line.word);
         if command == Command::Nothing {
             continue;
         }

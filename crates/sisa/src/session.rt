@@ -5,6 +5,9 @@ use crate::pair::{Given, pair};
 use crate::readings::{Tell, Told, print_state};
 use answers::Refusal;
 use calls::make_call;
+use machine::machine::Machine;
+use memory::Memory;
+use memory::either::EitherMemory;
 use monitor::commands::{Command, parse_command};
 use pairing::scripts::call_of;
 use std::fs;
@@ -15,10 +18,19 @@ use text::{LINE, read_text, write_text};
 pub fn session<R: BufRead + Drop>(
     rt: &HostRuntime,
     bench: &mut Bench,
-    input: R,
+    mut input: R,
 ) -> anyhow::Result<()> {
-    for line in input.split(rt.alloc(), b'\n') {
-        answer(rt, bench, parse_command(line?.as_slice()))?;
+    // One buffer for all lines: `split` would have one for each, which can be wanting at each.
+    let mut line = Vec::new(rt.alloc());
+    for _ in 0..u64::MAX {
+        line.clear();
+        if input.read_until(b'\n', &mut line)? == 0 {
+            break;
+        }
+        if line.last() == Some(&b'\n') {
+            let _ = line.pop();
+        }
+        answer(rt, bench, parse_command(line.as_slice()))?;
     }
     Ok(())
 }
@@ -58,17 +70,28 @@ fn answer(rt: &HostRuntime, bench: &mut Bench, command: Command<'_>) -> anyhow::
                 pair(rt, bench, script.as_slice())?;
             }
         }
-        _ => answer_machine(rt, bench, command)?,
+        // Its kind is asked once a command here, and not at each access of a run.
+        _ => match bench.store.memory() {
+            EitherMemory::One(mut flat) => {
+                answer_machine(rt, &mut bench.machine, &mut flat, command)?;
+            }
+            EitherMemory::Other(mut split) => {
+                answer_machine(rt, &mut bench.machine, &mut split, command)?;
+            }
+        },
     }
     Ok(())
 }
 
-/// Answers one command to the machine: a call that a script may have too, or another.
-fn answer_machine(rt: &HostRuntime, bench: &mut Bench, command: Command<'_>) -> anyhow::Result<()> {
-    let machine = &mut bench.machine;
-    let mut memory = bench.store.memory();
+/// Answers one command to the machine and its memory: a call that a script may have too, or another.
+fn answer_machine<Mem: Memory>(
+    rt: &HostRuntime,
+    machine: &mut Machine,
+    memory: &mut Mem,
+    command: Command<'_>,
+) -> anyhow::Result<()> {
     if let Some(call) = call_of(command) {
-        println!(rt; "{}", Given(make_call(machine, &mut memory, call)))?;
+        println!(rt; "{}", Given(make_call(machine, memory, call)))?;
         return Ok(());
     }
     match command {
@@ -76,7 +99,7 @@ fn answer_machine(rt: &HostRuntime, bench: &mut Bench, command: Command<'_>) -> 
             machine.reset();
             tell(rt, Ok(()))
         }
-        Command::Run { steps } => tell(rt, machine.run(&mut memory, steps)),
+        Command::Run { steps } => tell(rt, machine.run(memory, steps)),
         Command::SystemRegister { number } => tell(rt, machine.system_register(number)),
         Command::Pc => tell(rt, Ok(machine.pc())),
         _ => Ok(()),
