@@ -52,7 +52,7 @@ impl Register {
         ensures value { result ≡ register_number self }
         ensures bound { result < 8 }
     {
-        self as u16
+        self as u16 // R0 to R7 stand in their order.
     }
 }
 
@@ -82,7 +82,7 @@ impl SystemRegister {
         ensures value { result ≡ system_number self }
         ensures bound { result < 8 }
     {
-        self as u16
+        self as u16 // S0 to S7 stand in their order.
     }
 }
 
