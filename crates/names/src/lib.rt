@@ -1,7 +1,7 @@
 //! Short names, of mnemonics and of commands, in a form that a table can be searched by.
 #![tactic(auto)]
 
-ghost use Rattle.std.specs.Prelude.{◌≡◌, ◌≤◌, length, position, slice_index_or, ◌==◌};
+ghost use Rattle.std.specs.Prelude.{◌≡◌, ◌≤◌, length, position, ◌==◌};
 ghost use Rattle.std.specs.Str.{bytes_eq};
 ghost use Rattle.names.specs.Names.{before, first_word, name_of, named};
 
@@ -26,11 +26,9 @@ impl Name {
         if word.len() > LONGEST {
             return None;
         }
-        // Letter by letter: a copy of as many bytes as the word has would be a call, and reading a text
-        // took longer with it.
-        Some(Name {
-            letters: std::array::from_fn(|index| letter(word, index)),
-        })
+        let mut letters = [b' '; LONGEST];
+        letters[0..word.len()].copy_from_slice(word);
+        Some(Name { letters })
     }
 
     /// The letters of a name, without the blanks that fill it up.
@@ -40,13 +38,6 @@ impl Name {
     {
         first_word(&self.letters)
     }
-}
-
-/// The letter of a word at an index, or a blank past its end.
-fn letter(word: &[u8], index: usize) -> u8
-    ensures { result ≡ slice_index_or word.now index 32 }
-{
-    word.get(index).copied().unwrap_or(b' ')
 }
 
 /// A row of a table that is searched by name.
