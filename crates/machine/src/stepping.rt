@@ -53,7 +53,7 @@ pub(crate) fn advance<Mem: Memory>(state: &mut State, memory: &mut Mem) -> StepA
         user: state.system.is_user(),
         table: &state.tables.instruction,
     };
-    // By `match`: handed on by `?`, a fetch that fails made a step take 1.3 times as long.
+    // By `match`: handed on by `?`, a fetch that fails took a fifth more instructions.
     let word = match fetch(space, memory, address) {
         Ok(word) => word,
         Err(event) => return enter(state, event, address),
